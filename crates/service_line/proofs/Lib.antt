@@ -1,0 +1,9 @@
+pub mod Digits
+pub mod Asks
+pub mod Texts
+pub mod Amounts
+pub mod Fields
+pub mod Checks
+pub mod Hexes
+pub mod ReadsBack
+pub mod WrittenBack

@@ -1,0 +1,7 @@
+-- `write_answer` writes a frame whose bytes add up to a multiple of 256.
+use Rattle.service_line.specs.Formats.{answer-body}
+use Rattle.service_line.proofs.Checks.{closed}
+use Rattle.service_line.proofs.write.write_answer.Needs as need
+
+pub returns : need.returns
+returns c = record { len = c .put-answer .ensures .len; text = c .put-answer .ensures .text; checked = closed (answer-body (c .args .answer)) }

@@ -1,0 +1,6 @@
+pub mod Hex
+pub mod Formats
+pub mod Lines
+pub mod Parts
+pub mod Frames
+pub mod Reading
