@@ -7,3 +7,4 @@ pub mod Checks
 pub mod Hexes
 pub mod ReadsBack
 pub mod WrittenBack
+pub mod Cuts

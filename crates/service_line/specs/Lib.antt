@@ -4,3 +4,4 @@ pub mod Lines
 pub mod Parts
 pub mod Frames
 pub mod Reading
+pub mod Fronts

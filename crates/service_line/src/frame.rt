@@ -2,7 +2,7 @@
 ghost use mathlib.Core.Path.{_≡_};
 ghost use Prim.Native.Nat.{_%_, _≤_};
 ghost use lib.ListN.{length};
-ghost use Rattle.service_line.specs.Formats.{sum-of};
+ghost use Rattle.service_line.specs.Formats.{check-of, sum-of};
 ghost use Rattle.service_line.specs.Frames.{asked, decoded};
 use super::request::Request;
 use refusals::FrameRefusal;
@@ -16,6 +16,13 @@ pub(crate) fn sum(bytes: &[u8]) -> u8
         all = all.wrapping_add(*b);
     }
     all
+}
+
+// The check of a body: what brings its sum to a multiple of 256.
+pub(crate) fn check_byte(body: &[u8]) -> u8
+    ensures check { λ r. ⌜ r ≡ check-of (now (body .entry)) ⌝ }
+{
+    sum(body).wrapping_neg()
 }
 
 // What a frame asks, whatever its check: refused for its kind, then for its length.

@@ -8,7 +8,7 @@ ghost use Rattle.service_line.specs.Hex.{digit-of, text-of};
 ghost use Rattle.service_line.specs.Reading.{reading};
 ghost use Rattle.std.specs.declared.result.Result.the-variants.{Ok};
 use super::answer::Answer;
-use super::frame::sum;
+use super::frame::check_byte;
 use super::hex::digit;
 use super::request::Request;
 
@@ -38,17 +38,18 @@ fn put_bytes(bytes: &[u8], line: &mut LineBuffer)
 fn put_frame(body: &[u8], line: &mut LineBuffer) -> usize
     requires { ⌜ length (now body) ≤ 74 ⌝ }
     ensures len { λ r. ⌜ r ≡ length (text-of (frame-of (now (body .entry)))) ⌝ }
+    ensures room { λ r. ⌜ r ≤ 150 ⌝ }
     ensures text { λ _. ⌜ now (line .exit) ≡ over (text-of (frame-of (now (body .entry)))) (now (line .entry)) ⌝ }
 {
-    let check = sum(body).wrapping_neg();
     put_bytes(body, line);
-    put_byte(check, line, 2 * body.len());
+    put_byte(check_byte(body), line, 2 * body.len());
     2 * body.len() + 2
 }
 
 // Each request's body, as its format has it.
 fn put_request(request: Request, line: &mut LineBuffer) -> usize
     ensures len { λ r. ⌜ r ≡ length (request-line request) ⌝ }
+    ensures room { λ r. ⌜ r ≤ 150 ⌝ }
     ensures text { λ _. ⌜ now (line .exit) ≡ over (request-line request) (now (line .entry)) ⌝ }
     ensures fits { λ _. ⌜ Fitting request ⌝ }
 {
@@ -100,6 +101,7 @@ fn put_request(request: Request, line: &mut LineBuffer) -> usize
 // Writes the line of a request over the front of the buffer, and answers its length.
 pub fn write_request(request: Request, line: &mut LineBuffer) -> usize
     ensures len { λ r. ⌜ r ≡ length (request-line request) ⌝ }
+    ensures room { λ r. ⌜ r ≤ 150 ⌝ }
     ensures text { λ _. ⌜ now (line .exit) ≡ over (request-line request) (now (line .entry)) ⌝ }
     ensures reads_back { λ r. ⌜ reading (take r (now (line .exit))) ≡ Ok request ⌝ }
 {
@@ -131,6 +133,7 @@ fn invoice_body(number: u8, amounts: [i64; 9]) -> [u8; 74]
 // Each answer's body, as its format has it.
 fn put_answer(answer: Answer, line: &mut LineBuffer) -> usize
     ensures len { λ r. ⌜ r ≡ length (answer-line answer) ⌝ }
+    ensures room { λ r. ⌜ r ≤ 150 ⌝ }
     ensures text { λ _. ⌜ now (line .exit) ≡ over (answer-line answer) (now (line .entry)) ⌝ }
 {
     match answer {
@@ -154,6 +157,7 @@ fn put_answer(answer: Answer, line: &mut LineBuffer) -> usize
 // Writes the line of an answer over the front of the buffer, and answers its length.
 pub fn write_answer(answer: Answer, line: &mut LineBuffer) -> usize
     ensures len { λ r. ⌜ r ≡ length (answer-line answer) ⌝ }
+    ensures room { λ r. ⌜ r ≤ 150 ⌝ }
     ensures text { λ _. ⌜ now (line .exit) ≡ over (answer-line answer) (now (line .entry)) ⌝ }
     ensures checked { λ _. ⌜ sum-of (frame-of (answer-body answer)) % 256 ≡ 0 ⌝ }
 {

@@ -20,6 +20,7 @@ returns-in-Advice c =
     ∙ ap (λ (charge : List ℕ). 0x12 ∷ told .choice ∷ (field2 (told .power) ++ charge)) (passed-on (told .charge) fits)
     ∙ ap answer-body (sym (told .is)) in
     record {
+      room = c .put-frame-in-Advice .ensures .room;
       len = c .put-frame-in-Advice .ensures .len ∙ ap (λ (b : List ℕ). length (text-of (frame-of b))) body;
       text = c .put-frame-in-Advice .ensures .text ∙ ap (λ (b : List ℕ). over (text-of (frame-of b)) (c .args .line .now)) body;
     }

@@ -3,7 +3,7 @@ use borrow.Author.Needs.{needs}
 use Rattle.service_line.proofs.write.put_request.Needs as need
 
 pub returns-in-Post : need.returns-in-Post
-returns-in-Post c = record { len = search needs; text = search needs; fits = search needs }
+returns-in-Post c = record { len = search needs; room = search needs; text = search needs; fits = search needs }
 
 pub returns-in-Amend : need.returns-in-Amend
-returns-in-Amend c = record { len = search needs; text = search needs; fits = search needs }
+returns-in-Amend c = record { len = search needs; room = search needs; text = search needs; fits = search needs }

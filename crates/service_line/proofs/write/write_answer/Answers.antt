@@ -4,4 +4,6 @@ use Rattle.service_line.proofs.Checks.{closed}
 use Rattle.service_line.proofs.write.write_answer.Needs as need
 
 pub returns : need.returns
-returns c = record { len = c .put-answer .ensures .len; text = c .put-answer .ensures .text; checked = closed (answer-body (c .args .answer)) }
+returns c =
+    let written = c .put-answer .ensures in
+    record { len = written .len; room = written .room; text = written .text; checked = closed (answer-body (c .args .answer)) }

@@ -16,4 +16,4 @@ returns c =
     let n : ℕ = c .put-request .result in
     let front : take n (c .put-request .last .line) ≡ request-line q =
     ap (take n) (written .text) ∙ take-at (request-line q) (drop (length (request-line q)) (c .args .line .now)) n (sym (written .len)) in
-    record { len = written .len; text = written .text; reads-back = ap reading front ∙ reads-back q (written .fits) }
+    record { len = written .len; room = written .room; text = written .text; reads-back = ap reading front ∙ reads-back q (written .fits) }
