@@ -26,11 +26,12 @@ carries-none text lt = cond-true (ill-sized (length text)) (Err Length) (unless-
 
 pub cut-alike : (text : List ℕ) → reading (take 65 text) ≡ reading text
 cut-alike text = elim (cases-lt 64 (length text)) [
-    inl lt ↦
+  | inl lt ↦
       let many : 65 ≤ length text = omega arith in
       let cut : length (take 65 text) ≡ 65 = length-take-le 65 text many in
       ap by-line (carries-none (take 65 text) (omega arith) ∙ sym (carries-none text lt))
-  | inr le ↦ ap reading (take-all 65 text (omega arith)) ]
+  | inr le ↦ ap reading (take-all 65 text (omega arith))
+]
 
 module _ (len b : ℕ) (bytes text : List ℕ) (room : len ≤ length bytes) (keeps : Keeps len bytes text) where
   kept : len ≡ min 65 (length text)

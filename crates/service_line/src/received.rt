@@ -21,7 +21,10 @@ impl Received {
     pub fn new() -> Received
         ensures empty { λ r. ⌜ Keeps (r .len) (r .bytes) [] ⌝ }
     {
-        Received { bytes: [0; 65], len: 0 }
+        Received {
+            bytes: [0; 65],
+            len: 0,
+        }
     }
 
     // One byte more.

@@ -50,7 +50,7 @@ fn invoice_name(number: u8) -> &'static str {
         10 => "October",
         11 => "November",
         12 => "December",
-        13 => "the year's",
+        13 => "the whole year",
         _ => "unknown",
     }
 }

@@ -63,7 +63,10 @@ fn book<W: fmt::Write>(refusal: BookRefusal, f: &mut fmt::Formatter<W>) -> fmt::
         BookRefusal::Value { hour } => write!(f, "a value beyond 32000 either way for hour {hour}"),
         BookRefusal::Present { hour } => write!(f, "hour {hour} has a value"),
         BookRefusal::Absent { hour } => write!(f, "hour {hour} has no value"),
-        BookRefusal::Choice { choice } => write!(f, "choice {choice} is not open to the connection"),
+        BookRefusal::Choice { choice } => write!(
+            f,
+            "choice {choice} is not open to the connection"
+        ),
         BookRefusal::Limit { quantity: q } => write!(f, "{} over its limit", quantity(q)),
         BookRefusal::Number { number } => write!(f, "number {number} is not 1 to 13"),
     }
