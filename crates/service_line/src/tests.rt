@@ -17,6 +17,7 @@ use refusals::TariffRefusal;
 use std::test::*;
 
 // A buffer that is full, so that a byte that is left out shows.
+#[cfg(test)]
 const FULL: LineBuffer = [0xEE; 150];
 
 fn length(bytes: u8) -> Refusal {
