@@ -1,0 +1,2 @@
+-- What the two sample tariffs mean.
+pub mod Amounts
