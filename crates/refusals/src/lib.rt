@@ -8,20 +8,20 @@ mod frame;
 mod line;
 mod tariff;
 
-use crate::book::BookRefusalDebug;
-use crate::book::BookRefusalPartialEq;
-use crate::frame::FrameRefusalDebug;
-use crate::frame::FrameRefusalPartialEq;
-use crate::line::LineRefusalDebug;
-use crate::line::LineRefusalPartialEq;
-use crate::tariff::TariffRefusalDebug;
-use crate::tariff::TariffRefusalPartialEq;
 pub use book::BookRefusal;
+pub use book::BookRefusalDebug;
+pub use book::BookRefusalPartialEq;
 pub use book::Lent;
 pub use book::Quantity;
 pub use frame::FrameRefusal;
+pub use frame::FrameRefusalDebug;
+pub use frame::FrameRefusalPartialEq;
 pub use line::LineRefusal;
+pub use line::LineRefusalDebug;
+pub use line::LineRefusalPartialEq;
 pub use tariff::TariffRefusal;
+pub use tariff::TariffRefusalDebug;
+pub use tariff::TariffRefusalPartialEq;
 
 // Why a line, a frame, a call on the book or a sheet is refused.
 #[derive(Clone, Copy, PartialEq, Eq, Debug)]

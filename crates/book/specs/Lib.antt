@@ -1,0 +1,4 @@
+pub mod Points
+pub mod Answers
+pub mod Plain
+pub mod Memory
