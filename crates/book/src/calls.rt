@@ -35,9 +35,9 @@ impl Book {
         area: u8,
         connection: u8,
     ) -> Result<(), BookRefusal>
-        ensures answer { λ r. ⌜ r ≡ done (open-answer (length (now (records .entry))) (length (now (words .entry))) year area connection) ⌝ }
-        ensures after { λ _. ⌜ state (now (self .exit) .opening) (now (records .entry)) (now (words .exit)) ≡ after-open (open-answer (length (now (records .entry))) (length (now (words .entry))) year area connection) (state (now (self .entry) .opening) (now (records .entry)) (now (words .entry))) ⌝ }
-        ensures plain { λ _. ⌜ read (state (now (self .exit) .opening) (now (records .entry)) (now (words .exit))) ≡ opened (open-answer (length (now (records .entry))) (length (now (words .entry))) year area connection) (read (state (now (self .entry) .opening) (now (records .entry)) (now (words .entry)))) ⌝ }
+        ensures answer { λ r. let before = state (now (self .entry) .opening) (now (records .entry)) (now (words .entry)) in ⌜ r ≡ done (open-answer (length (before .records)) (length (before .words)) year area connection) ⌝ }
+        ensures after { λ _. let before = state (now (self .entry) .opening) (now (records .entry)) (now (words .entry)) in ⌜ state (now (self .exit) .opening) (now (records .entry)) (now (words .exit)) ≡ after-open (open-answer (length (before .records)) (length (before .words)) year area connection) before ⌝ }
+        ensures plain { λ _. let before = state (now (self .entry) .opening) (now (records .entry)) (now (words .entry)) in ⌜ read (state (now (self .exit) .opening) (now (records .entry)) (now (words .exit))) ≡ opened (open-answer (length (before .records)) (length (before .words)) year area connection) (read before) ⌝ }
     {
         self.perform_open(records, words, year, area, connection)
     }
@@ -50,9 +50,9 @@ impl Book {
         hour: u16,
         value: HourRecord,
     ) -> Result<(), BookRefusal>
-        ensures answer { λ r. ⌜ r ≡ post-answer (length (now (records .entry))) (length (now (words .entry))) (read (state (now (self .entry) .opening) (now (records .entry)) (now (words .entry)))) hour value ⌝ }
-        ensures after { λ r. ⌜ state (now (self .entry) .opening) (now (records .exit)) (now (words .exit)) ≡ after-post r (state (now (self .entry) .opening) (now (records .entry)) (now (words .entry))) hour value ⌝ }
-        ensures plain { λ r. ⌜ read (state (now (self .entry) .opening) (now (records .exit)) (now (words .exit))) ≡ written r (read (state (now (self .entry) .opening) (now (records .entry)) (now (words .entry)))) hour value ⌝ }
+        ensures answer { λ r. let before = state (now (self .entry) .opening) (now (records .entry)) (now (words .entry)) in ⌜ r ≡ post-answer (length (before .records)) (length (before .words)) (read before) hour value ⌝ }
+        ensures after { λ r. let before = state (now (self .entry) .opening) (now (records .entry)) (now (words .entry)) in ⌜ state (now (self .entry) .opening) (now (records .exit)) (now (words .exit)) ≡ after-post r before hour value ⌝ }
+        ensures plain { λ r. let before = state (now (self .entry) .opening) (now (records .entry)) (now (words .entry)) in ⌜ read (state (now (self .entry) .opening) (now (records .exit)) (now (words .exit))) ≡ written r (read before) hour value ⌝ }
     {
         self.perform_post(records, words, hour, value)
     }
@@ -65,9 +65,9 @@ impl Book {
         hour: u16,
         value: HourRecord,
     ) -> Result<(), BookRefusal>
-        ensures answer { λ r. ⌜ r ≡ amend-answer (length (now (records .entry))) (length (now (words .entry))) (read (state (now (self .entry) .opening) (now (records .entry)) (now (words .entry)))) hour value ⌝ }
-        ensures after { λ r. ⌜ state (now (self .entry) .opening) (now (records .exit)) (now (words .entry)) ≡ after-amend r (state (now (self .entry) .opening) (now (records .entry)) (now (words .entry))) hour value ⌝ }
-        ensures plain { λ r. ⌜ read (state (now (self .entry) .opening) (now (records .exit)) (now (words .entry))) ≡ written r (read (state (now (self .entry) .opening) (now (records .entry)) (now (words .entry)))) hour value ⌝ }
+        ensures answer { λ r. let before = state (now (self .entry) .opening) (now (records .entry)) (now (words .entry)) in ⌜ r ≡ amend-answer (length (before .records)) (length (before .words)) (read before) hour value ⌝ }
+        ensures after { λ r. let before = state (now (self .entry) .opening) (now (records .entry)) (now (words .entry)) in ⌜ state (now (self .entry) .opening) (now (records .exit)) (now (words .entry)) ≡ after-amend r before hour value ⌝ }
+        ensures plain { λ r. let before = state (now (self .entry) .opening) (now (records .entry)) (now (words .entry)) in ⌜ read (state (now (self .entry) .opening) (now (records .exit)) (now (words .entry))) ≡ written r (read before) hour value ⌝ }
     {
         self.perform_amend(records, words, hour, value)
     }
@@ -88,7 +88,7 @@ impl Book {
         words: &[u64],
         number: u8,
     ) -> Result<u16, BookRefusal>
-        ensures answer { λ r. ⌜ r ≡ missing-answer (length (now (records .entry))) (length (now (words .entry))) (read (state (now (self .entry) .opening) (now (records .entry)) (now (words .entry)))) number ⌝ }
+        ensures answer { λ r. let before = state (now (self .entry) .opening) (now (records .entry)) (now (words .entry)) in ⌜ r ≡ missing-answer (length (before .records)) (length (before .words)) (read before) number ⌝ }
     {
         check_memory(records, words)?;
         let opening = check_opened(self.opening)?;

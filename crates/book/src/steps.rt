@@ -28,8 +28,8 @@ impl Book {
         area: u8,
         connection: u8,
     ) -> Result<(), BookRefusal>
-        ensures answer { λ r. ⌜ r ≡ done (open-answer (length (now (records .entry))) (length (now (words .entry))) year area connection) ⌝ }
-        ensures after { λ _. ⌜ state (now (self .exit) .opening) (now (records .entry)) (now (words .exit)) ≡ after-open (open-answer (length (now (records .entry))) (length (now (words .entry))) year area connection) (state (now (self .entry) .opening) (now (records .entry)) (now (words .entry))) ⌝ }
+        ensures answer { λ r. let before = state (now (self .entry) .opening) (now (records .entry)) (now (words .entry)) in ⌜ r ≡ done (open-answer (length (before .records)) (length (before .words)) year area connection) ⌝ }
+        ensures after { λ _. let before = state (now (self .entry) .opening) (now (records .entry)) (now (words .entry)) in ⌜ state (now (self .exit) .opening) (now (records .entry)) (now (words .exit)) ≡ after-open (open-answer (length (before .records)) (length (before .words)) year area connection) before ⌝ }
     {
         let opening = check_open(records, words, year, area, connection)?;
         clear(words);
@@ -45,8 +45,8 @@ impl Book {
         hour: u16,
         value: HourRecord,
     ) -> Result<(), BookRefusal>
-        ensures answer { λ r. ⌜ r ≡ post-answer (length (now (records .entry))) (length (now (words .entry))) (read (state (now (self .entry) .opening) (now (records .entry)) (now (words .entry)))) hour value ⌝ }
-        ensures after { λ r. ⌜ state (now (self .entry) .opening) (now (records .exit)) (now (words .exit)) ≡ after-post r (state (now (self .entry) .opening) (now (records .entry)) (now (words .entry))) hour value ⌝ }
+        ensures answer { λ r. let before = state (now (self .entry) .opening) (now (records .entry)) (now (words .entry)) in ⌜ r ≡ post-answer (length (before .records)) (length (before .words)) (read before) hour value ⌝ }
+        ensures after { λ r. let before = state (now (self .entry) .opening) (now (records .entry)) (now (words .entry)) in ⌜ state (now (self .entry) .opening) (now (records .exit)) (now (words .exit)) ≡ after-post r before hour value ⌝ }
     {
         check_place(self.opening, records, words, hour, value)?;
         if has_value(self.opening, words, hour) {
@@ -65,8 +65,8 @@ impl Book {
         hour: u16,
         amended: HourRecord,
     ) -> Result<(), BookRefusal>
-        ensures answer { λ r. ⌜ r ≡ amend-answer (length (now (records .entry))) (length (now (words .entry))) (read (state (now (self .entry) .opening) (now (records .entry)) (now (words .entry)))) hour amended ⌝ }
-        ensures after { λ r. ⌜ state (now (self .entry) .opening) (now (records .exit)) (now (words .entry)) ≡ after-amend r (state (now (self .entry) .opening) (now (records .entry)) (now (words .entry))) hour amended ⌝ }
+        ensures answer { λ r. let before = state (now (self .entry) .opening) (now (records .entry)) (now (words .entry)) in ⌜ r ≡ amend-answer (length (before .records)) (length (before .words)) (read before) hour amended ⌝ }
+        ensures after { λ r. let before = state (now (self .entry) .opening) (now (records .entry)) (now (words .entry)) in ⌜ state (now (self .entry) .opening) (now (records .exit)) (now (words .entry)) ≡ after-amend r before hour amended ⌝ }
     {
         check_place(self.opening, records, words, hour, amended)?;
         if !has_value(self.opening, words, hour) {
