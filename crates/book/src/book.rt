@@ -9,3 +9,12 @@ pub struct Book {
     pub(crate) opening: Option<Opening>,
     ghost lawful: { lawful opening ≡ true },
 }
+
+impl Book {
+    // What the book holds besides its hours; none if it was never opened.
+    pub fn opening(&self) -> Option<Opening>
+        ensures opening { λ r. ⌜ r ≡ now (self .entry) .opening ⌝ }
+    {
+        self.opening
+    }
+}
