@@ -1,2 +1,0 @@
--- What the contracts cite of a bill.
-pub mod Shares
