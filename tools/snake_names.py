@@ -16,8 +16,16 @@ TOKEN = re.compile(r"(?<![\w'«»-])" + WORD + r"(?![\w'»-])")
 DECLARED = re.compile(r"^\s*(?:(?:pub|abbrev|unfoldable|opaque|instance|auto)\s+)*(" + WORD + r")\s*(?:\{[^}]*\}\s*|\([^()]*\)\s*)*:\s*(.*)$")
 LET = re.compile(r"\blet (" + WORD + r") ?[:=]")
 SOURCE = re.compile(r"\b[a-z][a-z0-9]*(?:_[a-z0-9]+)+\b")
-# a lemma whose respelling is the library's name, and what the checker says of locals and of one call
-OTHERWISE = {"bit-or": "bit_of_or"}
+# a lemma whose respelling is a name of the library, and definitions whose respelling is a field of the struct that they speak of
+OTHERWISE = {
+    "bit-or": "bit_of_or",
+    "summer-start": "summer_start_of",
+    "summer-end": "summer_end_of",
+    "first-weekday": "first_weekday_of",
+    "easter-sunday": "easter_sunday_of",
+    "days-off": "days_off_of",
+}
+# what the checker says of locals and of one call
 AFTER_A_DOT = {"peak-load-is", "other-is", "best-is", "midnight-first"}
 MADE = re.compile(r"^(goal|given|need)s?\.")
 
@@ -53,9 +61,19 @@ def own_names(paths):
 
 def respelled(found, turned):
     name = found.group(0)
-    if name in AFTER_A_DOT and found.string[found.start() - 1] == ".":
+    dotted = found.string[found.start() - 1 : found.start()] == "."
+    if dotted and name in AFTER_A_DOT:
         return name
+    if dotted and name in OTHERWISE:
+        return name.replace("-", "_")
     return turned.get(name, name)
+
+
+def respelled_line(line, turned):
+    """A comment is prose: only what stands in backticks there is a name."""
+    if line.lstrip().startswith(("//", "-- ")):
+        return re.sub(r"`[^`]*`", lambda m: TOKEN.sub(lambda n: respelled(n, turned), m.group(0)), line)
+    return TOKEN.sub(lambda m: respelled(m, turned), line)
 
 
 def main(argv):
@@ -88,7 +106,7 @@ def main(argv):
         return 0
     changed = 0
     for p, text in texts.items():
-        new = TOKEN.sub(lambda m: respelled(m, turned), text)
+        new = "\n".join(respelled_line(line, turned) for line in text.split("\n"))
         if new != text:
             changed += 1
             with open(p, "w", encoding="utf-8") as f:

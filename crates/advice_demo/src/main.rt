@@ -1,5 +1,7 @@
 // Advice on sample tariffs, and around the advised kW what each permitted choice costs: where the charge still falls, where it
 // is level, and which choice wins a tie.
+#![tactic(auto)]
+
 use sample_tariffs::{Rebates, Seasonal};
 use std::io;
 use tariff::{Tariff, advise};

@@ -1,4 +1,6 @@
 // What both tariffs share of a year's bill: the twelfths of yearly amounts, lines 1 to 4, and what the months come to.
+#![tactic(auto)]
+
 mod energy;
 mod months;
 mod ranges;

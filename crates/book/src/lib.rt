@@ -1,4 +1,6 @@
 // The book: one point, one year, in memory that the caller lends, and the calls on it.
+#![tactic(auto)]
+
 mod account;
 mod book;
 mod calls;

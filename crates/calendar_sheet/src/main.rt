@@ -1,4 +1,6 @@
 // For each year on the command line, the sheet of its calendar.
+#![tactic(auto)]
+
 mod names;
 mod reading;
 mod sheet;

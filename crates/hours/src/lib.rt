@@ -1,4 +1,6 @@
 // A year of hours in memory that the caller lends: hour records, presence words, and the leaves that scan them.
+#![tactic(auto)]
+
 mod energy;
 mod flow;
 mod peak;

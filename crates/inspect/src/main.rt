@@ -1,4 +1,6 @@
 // Prints what captured service lines ask, or why they are refused, and how many there were of each.
+#![tactic(auto)]
+
 mod row;
 mod session;
 mod tally;

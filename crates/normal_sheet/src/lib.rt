@@ -1,4 +1,6 @@
 // The normal tariff's sheets: rows and supplements, their test, the published sheets, and the lines that a level pays.
+#![tactic(auto)]
+
 mod check;
 mod checked;
 mod invoice;

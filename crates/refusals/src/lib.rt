@@ -1,4 +1,6 @@
 // Every refusal of the unit: one enum for each layer, and `Refusal` over the four.
+#![tactic(auto)]
+
 ghost use Rattle.std.specs.Prelude.{◌≡◌};
 ghost use Rattle.refusals.specs.Rows.{row_of};
 ghost use Rattle.refusals.specs.declared.Refusal.TheVariants.{Line, Frame, Book, Tariff};

@@ -1,4 +1,6 @@
 // The service line: one frame to a line, in hexadecimal; what a line asks, and what is answered.
+#![tactic(auto)]
+
 mod answer;
 mod frame;
 mod hex;

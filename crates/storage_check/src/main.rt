@@ -1,4 +1,6 @@
 // Goes through a script of calls on a book, and prints what each does to the lent memory.
+#![tactic(auto)]
+
 mod answered;
 mod asked;
 mod held;

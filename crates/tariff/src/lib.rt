@@ -1,4 +1,6 @@
 // What a tariff means, and advice over every tariff.
+#![tactic(auto)]
+
 mod advice;
 mod limits;
 mod meaning;

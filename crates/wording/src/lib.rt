@@ -1,4 +1,6 @@
 // Words for what the unit's programs print: refusals, areas, connections and invoices.
+#![tactic(auto)]
+
 mod names;
 mod reason;
 

@@ -1,4 +1,6 @@
 // Worked cases of the rules: a table in specs/, and one proof that every row of it holds of the definitions.
+#![tactic(auto)]
+
 #[cfg(test)]
 mod expected;
 #[cfg(test)]

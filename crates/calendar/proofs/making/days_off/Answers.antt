@@ -16,4 +16,4 @@ overflow-add-result c = record { fits = omega (arith, easter_sunday_high c.args.
 
 pub returns : goal.returns
 unfolding days_off days_to
-returns c = record { days = rw (c.requires, c.days-to-december.ensures.days) }
+returns c = record { days = rw (c.requires, c.days_to-december.ensures.days) }

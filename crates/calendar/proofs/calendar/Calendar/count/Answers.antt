@@ -3,7 +3,7 @@ use Rattle.std.proofs.Common.{◌≡◌, ℕ, ◌+◌, ◌-◌, Bool, cond, sym,
 use Rattle.calendar.specs.PeakLoad.{peak_load, peak_load_hours}
 use Rattle.calendar.proofs.PeakLoadLaws.{peak_load_hours_none, peak_load_hours_more, peak_load_hours_high}
 use Rattle.calendar.proofs.calendar.Calendar.count.Goals as goal
-use Rattle.calendar.proofs.calendar.Calendar.count.Goals.{then-is-peak-load, else-is-peak-load}
+use Rattle.calendar.proofs.calendar.Calendar.count.Goals.{then-is_peak_load, else-is_peak_load}
 
 pub loop-hour-init : goal.loop-hour-init
 loop-hour-init c =
@@ -29,6 +29,6 @@ loop-hour-preserved c =
     let one : Bool → ℕ = λ b. cond b 1 0 in
     let by : one (peak_load y h) ≡ one c.is_peak_load.result = ap one (sym c.is_peak_load.ensures.peak_load) in
     rw next (elim c.if-is-peak-load.branch [
-      | then-is-peak-load w ↦ omega (arith, w.count-is, rw w.if-is-peak-load.true at by)
-      | else-is-peak-load w ↦ omega (arith, w.count-is, rw w.if-is-peak-load.false at by)
+      | then-is_peak_load w ↦ omega (arith, w.count-is, rw w.if-is-peak-load.true at by)
+      | else-is_peak_load w ↦ omega (arith, w.count-is, rw w.if-is-peak-load.false at by)
     ])
