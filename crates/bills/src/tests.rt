@@ -54,7 +54,7 @@ fn yearly_amounts(rt: HostRuntime) {
 }
 
 // The two highest hours of the year lie in January, 900 and 800; the two highest months are January with 900 and May with
-// 500. Hours 100 and 101 are no peak_load hours, hour 3,000 lies in May.
+// 500. Hours 100 and 101 are no peak-load hours, hour 3,000 lies in May.
 #[test]
 fn the_two_highest_come_from_different_months(rt: HostRuntime) -> Result<(), Fail> {
     let Some(year) = Year::new(2022) else {

@@ -1,7 +1,7 @@
 -- Laws of days: months follow one another through the year, and the last Sundays of March and October lie in them.
 use Rattle.std.proofs.Common.{◌≡◌, ℕ, suc, ◌+◌, ◌-◌, ◌*◌, ◌/◌, ◌<◌, ◌≤◌, refl, add-one, arith}
 use Rattle.std.proofs.lemmas.Bool.Decides.{nat_tests}
-use Rattle.calendar.specs.Days.{leap, leap_day, year_days, month_days, days_to, months_over, month_of_day, days_before, first_weekday, weekday, last_sunday}
+use Rattle.calendar.specs.Days.{leap, leap_day, year_days, month_days, days_to, months_over, month_of_day, days_before, first_weekday_of, weekday, last_sunday}
 use Rattle.calendar.proofs.Rising.{rising_mono, passed_at}
 
 pub leap_day_high : (y : ℕ) → leap_day y ≤ 1
@@ -86,6 +86,6 @@ days_before_more y some =
     sums p n q4 q100 q400 n4 n100 n400 l one few few' more = omega arith
 
 -- a year begins on the weekday after the one on which the year before ends
-pub first_weekday_next : (y : ℕ) → 1 ≤ y → first_weekday (y + 1) ≡ weekday y (year_days y)
-unfolding first_weekday weekday
+pub first_weekday_next : (y : ℕ) → 1 ≤ y → first_weekday_of (y + 1) ≡ weekday y (year_days y)
+unfolding first_weekday_of weekday
 first_weekday_next y some = rw (days_before_more y some) (omega arith)

@@ -1,4 +1,4 @@
--- Laws of peak_load hours: how their number grows hour by hour, and part by part.
+-- Laws of peak-load hours: how their number grows hour by hour, and part by part.
 use Rattle.std.proofs.Common.{◌≡◌, ℕ, zero, suc, ◌+◌, ◌≤◌, cond, refl, add-zero, add-suc, add-one, arith}
 use Rattle.std.proofs.lemmas.Bool.Decides.{nat_tests}
 use Rattle.calendar.specs.PeakLoad.{peak_load, peak_load_hours}

@@ -2,15 +2,15 @@
 use Rattle.std.proofs.Common.{◌≡◌, ℕ, suc, ◌+◌, ◌-◌, ◌*◌, ◌/◌, ◌<◌, ◌≤◌, min, ◌⊎◌, ap, ◌∙◌, inl, inr, arith}
 use Rattle.std.proofs.lemmas.Bool.{cases_lt}
 use Rattle.std.proofs.lemmas.Bool.Decides.{nat_tests}
-use Rattle.calendar.specs.Days.{year_days, days_to, first_weekday, weekday, last_sunday}
-use Rattle.calendar.specs.Hours.{year_hours, summer_start, summer_end, clock, day_of, time_of, midnight}
+use Rattle.calendar.specs.Days.{year_days, days_to, first_weekday_of, weekday, last_sunday}
+use Rattle.calendar.specs.Hours.{year_hours, summer_start_of, summer_end_of, clock, day_of, time_of, midnight}
 use Rattle.calendar.specs.Weeks.{week_of, weeks, monday, week_first, week_end}
 use Rattle.calendar.specs.Laws.{WeeksCover, week_length, spring_week, autumn_week}
 use Rattle.calendar.proofs.DayLaws.{year_days_low, year_days_high, last_sunday_low, last_sunday_high}
 use Rattle.calendar.proofs.HourLaws.{spring_before_autumn, midnight_first, midnight_year, midnight_rises, midnight_mono, midnight_shows, day_of_from, day_of_to, day_of_year}
 
-pub first_weekday_below : (y : ℕ) → first_weekday y < 7
-unfolding first_weekday
+pub first_weekday_below : (y : ℕ) → first_weekday_of y < 7
+unfolding first_weekday_of
 first_weekday_below y = omega arith
 
 pub weeks_low : (y : ℕ) → 53 ≤ weeks y
@@ -34,7 +34,7 @@ week_first_end y w lt =
 
 pub week_first_none : (y : ℕ) → week_first y 0 ≡ 0
 unfolding week_first
-week_first_none y = let e : 7 * 0 - first_weekday y ≡ 0 = omega arith in rw e (midnight_first y)
+week_first_none y = let e : 7 * 0 - first_weekday_of y ≡ 0 = omega arith in rw e (midnight_first y)
 
 pub week_end_year : (y : ℕ) → week_end y (weeks y - 1) ≡ year_hours y
 unfolding week_end weeks
@@ -60,13 +60,13 @@ week_of_below y h lt = omega (arith, day_of_year y h lt)
 pub week_of_from : (y h : ℕ) → week_first y (week_of y h) ≤ h
 unfolding week_first week_of
 week_of_from y h =
-    let p : monday y ((first_weekday y + day_of y h) / 7) ≤ day_of y h = omega arith in
-    omega (arith, day_of_from y h, midnight_mono y (monday y ((first_weekday y + day_of y h) / 7)) (day_of y h) p)
+    let p : monday y ((first_weekday_of y + day_of y h) / 7) ≤ day_of y h = omega arith in
+    omega (arith, day_of_from y h, midnight_mono y (monday y ((first_weekday_of y + day_of y h) / 7)) (day_of y h) p)
 
 pub week_of_to : (y h : ℕ) → h < year_hours y → h < week_end y (week_of y h)
 unfolding week_end week_of
 week_of_to y h lt =
-    let last : ℕ = min (monday y (suc ((first_weekday y + day_of y h) / 7))) (year_days y) in
+    let last : ℕ = min (monday y (suc ((first_weekday_of y + day_of y h) / 7))) (year_days y) in
     let p : suc (day_of y h) ≤ last = omega (arith, day_of_year y h lt) in
     omega (arith, day_of_to y h, midnight_mono y (suc (day_of y h)) last p)
 
@@ -100,12 +100,12 @@ unfolding weekday
 week_first_monday y w some = omega (arith, week_first_day y w, first_weekday_below y)
 
 -- the days on which summer time begins and ends, and how far they are from each other and from the year's ends
-pub spring_day : (y : ℕ) → day_of y (summer_start y) ≡ last_sunday y 3
-unfolding day_of clock summer_start summer_end
+pub spring_day : (y : ℕ) → day_of y (summer_start_of y) ≡ last_sunday y 3
+unfolding day_of clock summer_start_of summer_end_of
 spring_day y = grind (arith, nat_tests, spring_before_autumn y)
 
-pub autumn_day : (y : ℕ) → day_of y (summer_end y) ≡ last_sunday y 10
-unfolding day_of clock summer_start summer_end
+pub autumn_day : (y : ℕ) → day_of y (summer_end_of y) ≡ last_sunday y 10
+unfolding day_of clock summer_start_of summer_end_of
 autumn_day y = grind (arith, nat_tests)
 
 pub record Far (y : ℕ) : Type 0 where
@@ -124,19 +124,19 @@ far y =
 
 -- seven days on from one midnight to another
 pub seven_days : (y d : ℕ) → (last_sunday y 3 < d) ⊎ (d + 7 ≤ last_sunday y 3) → (last_sunday y 10 < d) ⊎ (d + 7 ≤ last_sunday y 10) → midnight y (d + 7) ≡ midnight y d + 168
-unfolding midnight summer_start summer_end
+unfolding midnight summer_start_of summer_end_of
 seven_days y d s a = grind (arith, nat_tests)
 
 pub seven_days_spring : (y d : ℕ) → d ≤ last_sunday y 3 → last_sunday y 3 < d + 7 → midnight y (d + 7) ≡ midnight y d + 167
-unfolding midnight summer_start summer_end
+unfolding midnight summer_start_of summer_end_of
 seven_days_spring y d from to = let f = far y in grind (arith, nat_tests)
 
 pub seven_days_autumn : (y d : ℕ) → d ≤ last_sunday y 10 → last_sunday y 10 < d + 7 → midnight y (d + 7) ≡ midnight y d + 169
-unfolding midnight summer_start summer_end
+unfolding midnight summer_start_of summer_end_of
 seven_days_autumn y d from to = let f = far y in grind (arith, nat_tests)
 
 -- a week that the year's ends do not cut
-whole_week : (y w n : ℕ) → 0 < w → 7 * w + 7 ≤ first_weekday y + year_days y → midnight y (monday y w + 7) ≡ midnight y (monday y w) + n → week_length y w ≡ n
+whole_week : (y w n : ℕ) → 0 < w → 7 * w + 7 ≤ first_weekday_of y + year_days y → midnight y (monday y w + 7) ≡ midnight y (monday y w) + n → week_length y w ≡ n
 unfolding week_first week_end
 whole_week y w n some fits e =
     let next : min (monday y (suc w)) (year_days y) ≡ monday y w + 7 = omega (arith, first_weekday_below y) in

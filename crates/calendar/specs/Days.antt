@@ -42,11 +42,11 @@ unfoldable pub days_before : ℕ → ℕ
 days_before y = 365 * (y - 1) + (y - 1) / 4 - (y - 1) / 100 + (y - 1) / 400
 
 -- weekdays are numbered from 0 for Monday to 6 for Sunday; in this calendar the year 1 begins with a Monday
-unfoldable pub first_weekday : ℕ → ℕ
-first_weekday y = days_before y % 7
+unfoldable pub first_weekday_of : ℕ → ℕ
+first_weekday_of y = days_before y % 7
 
 unfoldable pub weekday : ℕ → ℕ → ℕ
-weekday y d = (first_weekday y + d) % 7
+weekday y d = (first_weekday_of y + d) % 7
 
 -- the last day of month m, and the last Sunday up to it
 abbrev pub last_day : ℕ → ℕ → ℕ

@@ -6,14 +6,14 @@ unfoldable pub year_hours : ℕ → ℕ
 year_hours y = 24 * year_days y
 
 -- summer time lasts from 02:00 standard time on the last Sunday of March until 02:00 standard time on that of October
-unfoldable pub summer_start : ℕ → ℕ
-summer_start y = 24 * last_sunday y 3 + 2
+unfoldable pub summer_start_of : ℕ → ℕ
+summer_start_of y = 24 * last_sunday y 3 + 2
 
-unfoldable pub summer_end : ℕ → ℕ
-summer_end y = 24 * last_sunday y 10 + 2
+unfoldable pub summer_end_of : ℕ → ℕ
+summer_end_of y = 24 * last_sunday y 10 + 2
 
 abbrev pub summer_time : ℕ → ℕ → Bool
-summer_time y h = nat_le (summer_start y) h && nat_lt h (summer_end y)
+summer_time y h = nat_le (summer_start_of y) h && nat_lt h (summer_end_of y)
 
 -- what the clock shows as hour h begins, in hours since 1 January, 00:00
 unfoldable pub clock : ℕ → ℕ → ℕ

@@ -1,7 +1,7 @@
 -- What months and weeks are to a year, in the calendar's own words.
 use Rattle.std.specs.Prelude.{◌≡◌, ℕ, suc, ◌-◌, ◌<◌, ◌≤◌, ◌≢◌}
 use Rattle.calendar.specs.Days.{weekday}
-use Rattle.calendar.specs.Hours.{year_hours, summer_start, summer_end, day_of, time_of, month_of, month_first, month_end}
+use Rattle.calendar.specs.Hours.{year_hours, summer_start_of, summer_end_of, day_of, time_of, month_of, month_first, month_end}
 use Rattle.calendar.specs.Weeks.{week_of, weeks, week_first, week_end}
 
 -- the months are consecutive parts that cover the year's hours exactly
@@ -22,10 +22,10 @@ week_length y w = week_end y w - week_first y w
 
 -- the weeks in which summer time begins and ends
 abbrev pub spring_week : ℕ → ℕ
-spring_week y = week_of y (summer_start y)
+spring_week y = week_of y (summer_start_of y)
 
 abbrev pub autumn_week : ℕ → ℕ
-autumn_week y = week_of y (summer_end y)
+autumn_week y = week_of y (summer_end_of y)
 
 -- the weeks are consecutive parts that cover the year's hours exactly; each begins at 00:00, and each but the first on a
 -- Monday; all have 168 hours but the first, the last, the week in which summer time begins (167) and the one in which it

@@ -1,4 +1,4 @@
--- The calendar's definitions, from the days of a year up to its hours, months, weeks and peak_load hours.
+-- The calendar's definitions, from the days of a year up to its hours, months, weeks and peak-load hours.
 pub mod Years
 pub mod Days
 pub mod Easter

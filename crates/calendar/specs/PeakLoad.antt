@@ -16,14 +16,14 @@ winter m = nat_le m 3 || nat_le 11 m
 abbrev pub working : ℕ → Bool
 working w = nat_lt w 5
 
-unfoldable pub easter_sunday : ℕ → ℕ
-easter_sunday y = date y 3 22 + easter y
+unfoldable pub easter_sunday_of : ℕ → ℕ
+easter_sunday_of y = date y 3 22 + easter y
 
 -- New Year's Day, Epiphany, Maundy Thursday, Good Friday, Easter Monday, and 24, 25, 26 and 31 December
-unfoldable pub days_off : ℕ → List ℕ
-days_off y =
+unfoldable pub days_off_of : ℕ → List ℕ
+days_off_of y =
     date y 1 1 ∷ date y 1 6
-    ∷ (easter_sunday y - 3) ∷ (easter_sunday y - 2) ∷ (easter_sunday y + 1)
+    ∷ (easter_sunday_of y - 3) ∷ (easter_sunday_of y - 2) ∷ (easter_sunday_of y + 1)
     ∷ date y 12 24 ∷ date y 12 25 ∷ date y 12 26 ∷ date y 12 31 ∷ []
 
 abbrev pub among : ℕ → List ℕ → Bool
@@ -32,13 +32,13 @@ among d (x ∷ xs) = x == d || among d xs
 
 -- a day that counts: Monday to Friday, and no day off
 unfoldable pub counts : ℕ → ℕ → Bool
-counts y d = working (weekday y d) && not (among d (days_off y))
+counts y d = working (weekday y d) && not (among d (days_off_of y))
 
--- whether hour h is an hour of the year and a peak_load hour
+-- whether hour h is an hour of the year and a peak-load hour
 unfoldable pub peak_load : ℕ → ℕ → Bool
 peak_load y h = nat_lt h (year_hours y) && daytime (time_of y h) && winter (month_of y h) && counts y (day_of y h)
 
--- how many of the n hours from hour h on are peak_load hours
+-- how many of the n hours from hour h on are peak-load hours
 unfoldable pub peak_load_hours : ℕ → ℕ → ℕ → ℕ
 peak_load_hours y h zero = 0
 peak_load_hours y h (suc n) = peak_load_hours y h n + cond (peak_load y (h + n)) 1 0

@@ -1,6 +1,6 @@
 // The clock of a year: standard time, and one hour more in summer time.
 ghost use Rattle.std.specs.Prelude.{◌≡◌, ◌<◌, ◌≤◌};
-ghost use Rattle.calendar.specs.Hours.{summer_start, summer_end, clock, midnight};
+ghost use Rattle.calendar.specs.Hours.{summer_start_of, summer_end_of, clock, midnight};
 
 use crate::days::last_sunday;
 use crate::year::Year;
@@ -10,8 +10,8 @@ pub(crate) struct Clock {
     pub(crate) year: Year,
     pub(crate) summer_start: u16,
     pub(crate) summer_end: u16,
-    ghost from: { summer_start ≡ summer_start year.number },
-    ghost to: { summer_end ≡ summer_end year.number },
+    ghost from: { summer_start ≡ summer_start_of year.number },
+    ghost to: { summer_end ≡ summer_end_of year.number },
     ghost forward: { summer_start ≤ summer_end },
     ghost within: { summer_end ≤ 8784 },
 }

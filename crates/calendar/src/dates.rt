@@ -3,7 +3,7 @@ ghost use Rattle.std.specs.Prelude.{◌≡◌, ◌<◌, ◌≤◌, nat_lt};
 ghost use Rattle.std.specs.Option.{option_map};
 ghost use Rattle.calendar.specs.Dates.{weekday_number, day_of_month, date_numbers, date_of};
 ghost use Rattle.calendar.specs.Days.{year_days, date, weekday, month_of_day};
-ghost use Rattle.calendar.specs.PeakLoad.{easter_sunday, days_off};
+ghost use Rattle.calendar.specs.PeakLoad.{easter_sunday_of, days_off_of};
 ghost use Rattle.calendar.specs.Years.{provided};
 
 use crate::calendar::Calendar;
@@ -13,7 +13,7 @@ use crate::days::days_to;
 impl Calendar {
     // Easter Sunday as a day of the year.
     pub fn easter_sunday(&self) -> u16
-        ensures easter { result ≡ easter_sunday self.now.year.number }
+        ensures easter { result ≡ easter_sunday_of self.now.year.number }
         ensures is_a_sunday { weekday self.now.year.number result ≡ 6 }
     {
         self.easter_sunday
@@ -22,7 +22,7 @@ impl Calendar {
     // The days that do not count, as days of the year: New Year's Day, Epiphany, Maundy Thursday, Good Friday, Easter
     // Monday, and 24, 25, 26 and 31 December.
     pub fn days_off(&self) -> [u16; 9]
-        ensures days_off { result ≡ days_off self.now.year.number }
+        ensures days_off { result ≡ days_off_of self.now.year.number }
     {
         self.days_off
     }

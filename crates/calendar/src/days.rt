@@ -1,6 +1,6 @@
 // The days of a year: leap years, months and weekdays.
 ghost use Rattle.std.specs.Prelude.{◌≡◌, ◌<◌, ◌≤◌};
-ghost use Rattle.calendar.specs.Days.{leap, month_days, days_to, first_weekday, last_sunday};
+ghost use Rattle.calendar.specs.Days.{leap, month_days, days_to, first_weekday_of, last_sunday};
 ghost use Rattle.calendar.specs.Hours.{year_hours};
 
 use crate::year::Year;
@@ -45,7 +45,7 @@ pub(crate) fn days_to(year: Year, month: u16) -> u16
 
 // The weekday of 1 January, 0 for Monday.
 pub(crate) fn first_weekday(year: Year) -> u16
-    ensures weekday { result ≡ first_weekday year.number }
+    ensures weekday { result ≡ first_weekday_of year.number }
     ensures below { result < 7 }
 {
     let past = year.number as u32 - 1;

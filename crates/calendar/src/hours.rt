@@ -1,6 +1,6 @@
 // The hours of a year, and what the clock shows at them.
 ghost use Rattle.std.specs.Prelude.{◌≡◌, ◌<◌, ◌≤◌};
-ghost use Rattle.calendar.specs.Hours.{year_hours, summer_start, summer_end, day_of, time_of, midnight};
+ghost use Rattle.calendar.specs.Hours.{year_hours, summer_start_of, summer_end_of, day_of, time_of, midnight};
 
 use crate::calendar::Calendar;
 use crate::span::Span;
@@ -15,8 +15,8 @@ impl Calendar {
 
     // The hours of summer time.
     pub fn summer_time(&self) -> Span
-        ensures first { result.first ≡ summer_start self.now.year.number }
-        ensures end { result.end ≡ summer_end self.now.year.number }
+        ensures first { result.first ≡ summer_start_of self.now.year.number }
+        ensures end { result.end ≡ summer_end_of self.now.year.number }
     {
         Span {
             first: self.clock.summer_start,

@@ -1,4 +1,4 @@
-// The calendar of a year: its hours, months, weeks, Easter and peak_load hours, for the years 2002 to 2299.
+// The calendar of a year: its hours, months, weeks, Easter and peak-load hours, for the years 2002 to 2299.
 #![tactic(auto)]
 
 mod calendar;

@@ -1,9 +1,9 @@
 // How a year's calendar is made.
 ghost use Rattle.std.specs.Prelude.{◌≡◌, ℕ, ◌+◌, ◌≤◌, slice_index};
-ghost use Rattle.calendar.specs.Days.{year_days, first_weekday, weekday};
+ghost use Rattle.calendar.specs.Days.{year_days, first_weekday_of, weekday};
 ghost use Rattle.calendar.specs.Hours.{year_hours, month_end};
 ghost use Rattle.calendar.specs.Laws.{MonthsCover, WeeksCover};
-ghost use Rattle.calendar.specs.PeakLoad.{easter_sunday, days_off};
+ghost use Rattle.calendar.specs.PeakLoad.{easter_sunday_of, days_off_of};
 ghost use Rattle.calendar.specs.Weeks.{weeks};
 
 use crate::calendar::Calendar;
@@ -14,7 +14,7 @@ use crate::year::Year;
 impl Calendar {
     pub fn new(year: Year) -> Calendar
         ensures of_year { result.year.number ≡ year.number }
-        ensures next_year_goes_on { let y = year.number in first_weekday (y + 1) ≡ weekday y (year_days y) }
+        ensures next_year_goes_on { let y = year.number in first_weekday_of (y + 1) ≡ weekday y (year_days y) }
         ensures months_cover_the_year { MonthsCover year.number }
         ensures weeks_cover_the_year { WeeksCover year.number }
     {
@@ -52,15 +52,15 @@ fn week_count(year: Year) -> u8
 
 // Easter Sunday as a day of the year; it is counted from 22 March.
 fn easter_sunday(year: Year) -> u16
-    ensures easter { result ≡ easter_sunday year.number }
+    ensures easter { result ≡ easter_sunday_of year.number }
     ensures sunday { weekday year.number result ≡ 6 }
 {
     days_to(year, 2) + 21 + year.easter()
 }
 
 fn days_off(year: Year, easter: u16) -> [u16; 9]
-    requires { easter ≡ easter_sunday year.number }
-    ensures days { result ≡ days_off year.number }
+    requires { easter ≡ easter_sunday_of year.number }
+    ensures days { result ≡ days_off_of year.number }
 {
     let december = days_to(year, 11);
     [

@@ -1,13 +1,13 @@
 // Peak-load hours.
 ghost use Rattle.std.specs.Prelude.{◌≡◌, ◌-◌, ◌<◌, ◌≤◌};
 ghost use Rattle.calendar.specs.Hours.{year_hours, month_of};
-ghost use Rattle.calendar.specs.PeakLoad.{daytime, winter, days_off, among, counts, peak_load, peak_load_hours};
+ghost use Rattle.calendar.specs.PeakLoad.{daytime, winter, days_off_of, among, counts, peak_load, peak_load_hours};
 
 use crate::calendar::Calendar;
 use crate::span::Span;
 
 impl Calendar {
-    // Whether the hour is a peak_load hour; false past the year's last hour.
+    // Whether the hour is a peak-load hour; false past the year's last hour.
     pub fn is_peak_load(&self, hour: u16) -> bool
         ensures peak_load { result ≡ peak_load self.now.year.number hour }
     {
@@ -21,7 +21,7 @@ impl Calendar {
         }
     }
 
-    // How many hours of a span are peak_load hours.
+    // How many hours of a span are peak-load hours.
     pub fn peak_load_hours(&self, span: Span) -> u16
         ensures count { result ≡ peak_load_hours self.now.year.number span.first (span.end - span.first) }
     {
@@ -57,7 +57,7 @@ impl Calendar {
     }
 
     fn is_day_off(&self, day: u16) -> bool
-        ensures off { result ≡ among day (days_off self.now.year.number) }
+        ensures off { result ≡ among day (days_off_of self.now.year.number) }
     {
         self.days_off.contains(&day)
     }

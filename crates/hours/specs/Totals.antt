@@ -28,7 +28,7 @@ peak_of HighLoad t = t.high_load
 peak_of ReactiveDrawn t = t.reactive_drawn
 peak_of ReactiveFedIn t = t.reactive_fed_in
 
--- one hour more, which is a peak_load hour or none
+-- one hour more, which is a peak-load hour or none
 abbrev pub with_hour : Totals → Bool → HourRecord → Totals
 with_hour t peak v = record {
   peak_load_kwh = t.peak_load_kwh + cond peak (flow_of flow.Drawn v) 0;

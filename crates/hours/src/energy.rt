@@ -1,4 +1,4 @@
-// The energy that is drawn in a part of the year, in peak_load hours and in others.
+// The energy that is drawn in a part of the year, in peak-load hours and in others.
 ghost use Rattle.std.specs.Prelude.{◌≡◌, ◌≤◌, map};
 ghost use Rattle.calendar.specs.PeakLoad.{peak_load};
 ghost use Rattle.std.specs.List.{between};

@@ -8,7 +8,7 @@ use super::flow::Flow;
 use super::record::{HourRecord, part};
 use calendar::{Calendar, Span};
 
-// Drawn energy in kWh, in peak_load hours and in others, and the highest values: drawn, drawn in a peak_load hour, and
+// Drawn energy in kWh, in peak-load hours and in others, and the highest values: drawn, drawn in a peak-load hour, and
 // reactive, drawn and fed in.
 #[derive(Clone, Copy, PartialEq, Eq, Debug)]
 pub struct Totals {

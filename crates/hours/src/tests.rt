@@ -112,7 +112,7 @@ fn present_hours_are_counted_by_their_bits(rt: HostRuntime) {
     );
 }
 
-// Hour 53 of 2022 begins at 05:00 on Monday 3 January, so 54 and 55 are peak_load hours and 53 is not.
+// Hour 53 of 2022 begins at 05:00 on Monday 3 January, so 54 and 55 are peak-load hours and 53 is not.
 #[test]
 fn a_part_is_scanned_in_place(rt: HostRuntime) -> Result<(), Fail> {
     let mut records = [value(0, 0); 100];

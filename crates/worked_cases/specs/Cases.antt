@@ -7,9 +7,9 @@ use Rattle.calendar.specs.PeakLoad.{peak_load, peak_load_hours}
 use Rattle.calendar.specs.Weeks.{weeks}
 
 pub data Case : Type 0 where
-  -- a year has so many peak_load hours
+  -- a year has so many peak-load hours
   peak_load_hours_of : (year count : ℕ) → Case
-  -- an hour of a year is a peak_load hour, or is none
+  -- an hour of a year is a peak-load hour, or is none
   a_peak_load_hour : (year hour : ℕ) → Case
   no_peak_load_hour : (year hour : ℕ) → Case
   -- a month has the hours from one to another, both included

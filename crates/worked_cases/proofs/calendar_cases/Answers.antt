@@ -1,13 +1,13 @@
 -- Every row is computed from the definitions and compared with what was worked out.
 use Rattle.std.proofs.Common.{refl}
-use Rattle.calendar.specs.Days.{leap, days_to, month_of_day, days_before, first_weekday, weekday, last_sunday}
+use Rattle.calendar.specs.Days.{leap, days_to, month_of_day, days_before, first_weekday_of, weekday, last_sunday}
 use Rattle.calendar.specs.Easter.{easter}
-use Rattle.calendar.specs.Hours.{year_hours, summer_start, summer_end, clock, day_of, time_of, month_of, midnight, month_end}
-use Rattle.calendar.specs.PeakLoad.{easter_sunday, days_off, counts, peak_load, peak_load_hours}
+use Rattle.calendar.specs.Hours.{year_hours, summer_start_of, summer_end_of, clock, day_of, time_of, month_of, midnight, month_end}
+use Rattle.calendar.specs.PeakLoad.{easter_sunday_of, days_off_of, counts, peak_load, peak_load_hours}
 use Rattle.calendar.specs.Weeks.{weeks}
 use Rattle.worked_cases.specs.Cases.{cases}
 use Rattle.worked_cases.proofs.calendar_cases.Goals as goal
 
 pub returns : goal.returns
-unfolding cases leap days_to month_of_day days_before first_weekday weekday last_sunday easter year_hours summer_start summer_end clock day_of time_of month_of midnight month_end easter_sunday days_off counts peak_load peak_load_hours weeks
+unfolding cases leap days_to month_of_day days_before first_weekday_of weekday last_sunday easter year_hours summer_start_of summer_end_of clock day_of time_of month_of midnight month_end easter_sunday_of days_off_of counts peak_load peak_load_hours weeks
 returns c = record { number = refl; every_case_holds = refl }

@@ -8,8 +8,8 @@ pub loop-past-init : goal.loop-past-init
 unfolding days_to
 loop-past-init c = refl
 
-pub overflow-add-days : goal.overflow-add-days
-overflow-add-days c =
+pub overflow_add-days : goal.overflow_add-days
+overflow_add-days c =
     record { fits = omega (arith, days_to_high c.args.year.number c.loop-past.past (omega arith), month_days_high c.args.year.number (c.loop-past.past + 1)) }
 
 pub loop-past-preserved : goal.loop-past-preserved

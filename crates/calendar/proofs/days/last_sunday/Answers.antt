@@ -4,11 +4,11 @@ use Rattle.calendar.specs.Days.{weekday, last_sunday}
 use Rattle.calendar.proofs.DayLaws.{days_to_low}
 use Rattle.calendar.proofs.days.last_sunday.Goals as goal
 
-pub overflow-sub-last : goal.overflow-sub-last
-overflow-sub-last c = omega (arith, days_to_low c.args.year.number c.args.month c.requires.0)
+pub overflow_sub-last : goal.overflow_sub-last
+overflow_sub-last c = omega (arith, days_to_low c.args.year.number c.args.month c.requires.0)
 
-pub overflow-sub-result : goal.overflow-sub-result
-overflow-sub-result c = omega (arith, days_to_low c.args.year.number c.args.month c.requires.0)
+pub overflow_sub-result : goal.overflow_sub-result
+overflow_sub-result c = omega (arith, days_to_low c.args.year.number c.args.month c.requires.0)
 
 pub returns : goal.returns
 unfolding weekday last_sunday

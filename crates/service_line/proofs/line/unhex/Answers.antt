@@ -7,15 +7,15 @@ use Rattle.service_line.specs.Parts.{byte_at, held}
 use Rattle.service_line.proofs.Digits.{a_stranger, all_read, fitting, no_stranger, one_byte_more, sized}
 use Rattle.service_line.proofs.line.unhex.Goals as goal
 
-pub returns-in-err-b : goal.returns-in-err-b
-returns-in-err-b c =
+pub returns-in_err-b : goal.returns-in_err-b
+returns-in_err-b c =
     let text = c.args.line.now in
     let i : ℕ = c.loop-i.i in
     let p = err_from_is_err_and c.from-residual.result c.from-residual.ensures.1 in
     let lt : 2 * i + 1 < length text = omega arith in
     record {
       bytes = ap held p.1 ∙ ap Err p.2
-          ∙ a_stranger text (2 * i + 1) (2 * i) c.loop-i.invariant.0 lt c.in-err-b.field-0.0 c.in-err-b.ensures.value
+          ∙ a_stranger text (2 * i + 1) (2 * i) c.loop-i.invariant.0 lt c.in_err-b.field-0.0 c.in_err-b.ensures.value
           ∙ fitting text c.if-ill-sized.ensures.sized;
       fits = rw p.1 tt;
     }
@@ -29,8 +29,8 @@ loop-i-preserved c =
     let small : i < length c.loop-i.all = omega arith in
     let column : 2 * i + 1 + 2 ≡ 2 * (i + 1) + 1 = omega arith in
     let place : 2 * i + 2 ≡ 2 * (i + 1) = omega arith in
-    let b = c.in-ok-b.b in
-    let e = c.in-ok-b.ensures.value in (
+    let b = c.in_ok-b.b in
+    let e = c.in_ok-b.ensures.value in (
       no_stranger text (2 * i + 1) (2 * i) c.loop-i.invariant.0 lt b (2 * (i + 1) + 1) (2 * (i + 1)) e column place,
       one_byte_more text (2 * i + 1) (2 * i) c.loop-i.invariant.0 lt c.loop-i.all i b (2 * (i + 1)) c.loop-i.invariant.1 e small place,
       simp length-set c.loop-i.invariant.2,

@@ -19,7 +19,7 @@ loop-choice-preserved g c =
     elim c.if-permits.branch [
       | then-permits w ↦
           let answer = sym c.permits.ensures.answer ∙ w.if-permits.true in
-          let told = to_z-of_z w64 w.charge-at-charge.result (record { sfits = w.charge-at-charge.type-inv }) ∙ w.charge-at-charge.ensures.charge in
+          let told = to_z-of_z w64 w.charge-at-charge.result (record { sfits = w.charge-at-charge.type_inv }) ∙ w.charge-at-charge.ensures.charge in
           subst (Best permitted K low high (k + 1)) (sym (w.best-is ∙ ap Some w.better.ensures.better)) (taken permitted K low high k w.settled-kw.result (to_z w64 (of_z w64 w.charge-at-charge.result)) c.loop-choice.best (allowed_permitted n permitted k answer) w.settled-kw.ensures.settles told c.loop-choice.invariant)
       | else-permits w ↦
           let answer = sym c.permits.ensures.answer ∙ w.if-permits.false in

@@ -1,4 +1,4 @@
--- The count grows by one at each peak_load hour.
+-- The count grows by one at each peak-load hour.
 use Rattle.std.proofs.Common.{◌≡◌, ℕ, ◌+◌, ◌-◌, Bool, cond, sym, ap, arith}
 use Rattle.calendar.specs.PeakLoad.{peak_load, peak_load_hours}
 use Rattle.calendar.proofs.PeakLoadLaws.{peak_load_hours_none, peak_load_hours_more, peak_load_hours_high}
@@ -11,8 +11,8 @@ loop-hour-init c =
     let e : f - f ≡ 0 = omega arith in
     rw e (sym (peak_load_hours_none c.args.self.now.year.number f))
 
-pub overflow-add-count : goal.overflow-add-count
-overflow-add-count c =
+pub overflow_add-count : goal.overflow_add-count
+overflow_add-count c =
     let f : ℕ = c.args.first in
     record { fits = omega (arith, peak_load_hours_high c.args.self.now.year.number f (c.loop-hour.hour - f)) }
 
@@ -28,7 +28,7 @@ loop-hour-preserved c =
     let inv = c.loop-hour.invariant in
     let one : Bool → ℕ = λ b. cond b 1 0 in
     let by : one (peak_load y h) ≡ one c.is_peak_load.result = ap one (sym c.is_peak_load.ensures.peak_load) in
-    rw next (elim c.if-is-peak-load.branch [
-      | then-is_peak_load w ↦ omega (arith, w.count-is, rw w.if-is-peak-load.true at by)
-      | else-is_peak_load w ↦ omega (arith, w.count-is, rw w.if-is-peak-load.false at by)
+    rw next (elim c.if-is_peak_load.branch [
+      | then-is_peak_load w ↦ omega (arith, w.count-is, rw w.if-is_peak_load.true at by)
+      | else-is_peak_load w ↦ omega (arith, w.count-is, rw w.if-is_peak_load.false at by)
     ])

@@ -19,20 +19,20 @@ month_is y d h m at is = is ∙ ap (month_of_day y) (ap (day_of y) at ∙ day_of
 first_is : (y m n f : ℕ) → m ≡ n → f ≡ days_to y (m - 1) → f ≡ days_to y (n - 1)
 first_is y m n f is e = e ∙ ap (λ (k : ℕ). days_to y (k - 1)) is
 
-pub overflow-sub-result : goal.overflow-sub-result
-overflow-sub-result c =
+pub overflow_sub-result : goal.overflow_sub-result
+overflow_sub-result c =
     let y : ℕ = c.args.self.now.year.number in
     let d : ℕ = c.args.day in
-    let m = month_is y d _ _ c.midnight.ensures.midnight c.month-at-month.ensures.month in
-    let f = first_is y _ _ _ m c.days-to-first.ensures.days in
+    let m = month_is y d _ _ c.midnight.ensures.midnight c.month_at-month.ensures.month in
+    let f = first_is y _ _ _ m c.days_to-first.ensures.days in
     omega (arith, month_of_day_from y d c.requires)
 
-pub overflow-cast-result : goal.overflow-cast-result
-overflow-cast-result c =
+pub overflow_cast-result : goal.overflow_cast-result
+overflow_cast-result c =
     let y : ℕ = c.args.self.now.year.number in
     let d : ℕ = c.args.day in
-    let m = month_is y d _ _ c.midnight.ensures.midnight c.month-at-month.ensures.month in
-    let f = first_is y _ _ _ m c.days-to-first.ensures.days in
+    let m = month_is y d _ _ c.midnight.ensures.midnight c.month_at-month.ensures.month in
+    let f = first_is y _ _ _ m c.days_to-first.ensures.days in
     record { fits = omega (arith, month_of_day_near y d c.requires) }
 
 pub returns : goal.returns
@@ -40,10 +40,10 @@ unfolding weekday
 returns c =
     let y : ℕ = c.args.self.now.year.number in
     let d : ℕ = c.args.day in
-    let m = month_is y d _ _ c.midnight.ensures.midnight c.month-at-month.ensures.month in
+    let m = month_is y d _ _ c.midnight.ensures.midnight c.month_at-month.ensures.month in
     let day : weekday_number c.weekday_of.result ≡ weekday y d =
     c.weekday_of.ensures.named ∙ ap (λ (f : ℕ). (f + d) % 7) c.args.self.now.begins in
     record {
-      date = date_of_is y d _ _ _ c.requires m day (ap (λ (f : ℕ). d - f + 1) c.days-to-first.ensures.days);
+      date = date_of_is y d _ _ _ c.requires m day (ap (λ (f : ℕ). d - f + 1) c.days_to-first.ensures.days);
       there_and_back = date_there_and_back y d c.requires;
     }

@@ -21,13 +21,13 @@ end_is : (y w d r : ℕ) → r ≡ midnight y d → d ≡ min (monday y (suc w))
 unfolding week_end
 end_is y w d r e f = e ∙ ap (midnight y) f
 
-pub invariant-of-result : goal.invariant-of-result
-invariant-of-result c =
+pub invariant_of-result : goal.invariant_of-result
+invariant_of-result c =
     let y : ℕ = c.args.self.now.year.number in
     let w : ℕ = c.args.week in
     let first = first_is y w _ _ c.midnight-first.ensures.midnight c.monday.ensures.monday in
     let end = end_is y w c.min.result _ c.midnight-end.ensures.midnight (omega arith) in
-    (omega (arith, week_rises y w c.requires), (omega (arith, week_end_high y w, year_hours_high y), tt))
+    record { forward = omega (arith, week_rises y w c.requires); within = omega (arith, week_end_high y w, year_hours_high y) }
 
 pub returns : goal.returns
 returns c =

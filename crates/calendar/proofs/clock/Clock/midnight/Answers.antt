@@ -1,12 +1,12 @@
 -- The two tests are whether it is summer time, which does not begin with the year.
 use Rattle.std.proofs.Common.{arith}
 use Rattle.std.proofs.lemmas.Bool.Decides.{nat_tests}
-use Rattle.calendar.specs.Hours.{summer_start, midnight}
+use Rattle.calendar.specs.Hours.{summer_start_of, midnight}
 use Rattle.calendar.proofs.clock.Clock.midnight.Goals as goal
 
-pub overflow-sub-result : goal.overflow-sub-result
-unfolding summer_start
-overflow-sub-result c = omega (arith, c.args.self.now.from)
+pub overflow_sub-result : goal.overflow_sub-result
+unfolding summer_start_of
+overflow_sub-result c = omega (arith, c.args.self.now.from)
 
 pub returns-then-hour-self : goal.returns-then-hour-self
 unfolding midnight

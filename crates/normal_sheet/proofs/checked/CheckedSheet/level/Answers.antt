@@ -21,15 +21,15 @@ module _ (sheet : NormalSheet) (ok : in_order sheet ≡ true) (choice number : �
   added_in_range : (supplement.fixed_fee ≤ 1000000000) × (supplement.power_rate ≤ 1000000)
   added_in_range = subst (λ (s : Supplement). (s.fixed_fee ≤ 1000000000) × (s.power_rate ≤ 1000000)) (sym added) (added_most sheet ok choice)
 
-pub overflow-add-result : goal.overflow-add-result
-overflow-add-result c =
+pub overflow_add-result : goal.overflow_add-result
+overflow_add-result c =
     let sheet = c.args.self.now in
     let row = (row_in_range sheet.sheet sheet.checked c.args.choice _ _ _ c.row_number.ensures.row c.row-at-row.ensures.row c.supplement-supplement.ensures.supplement).fixed_fee in
     let more = added_in_range sheet.sheet sheet.checked c.args.choice _ _ _ c.row_number.ensures.row c.row-at-row.ensures.row c.supplement-supplement.ensures.supplement in
     omega arith
 
-pub overflow-add-result-2 : goal.overflow-add-result-2
-overflow-add-result-2 c =
+pub overflow_add-result-2 : goal.overflow_add-result-2
+overflow_add-result-2 c =
     let sheet = c.args.self.now in
     let row = (row_in_range sheet.sheet sheet.checked c.args.choice _ _ _ c.row_number.ensures.row c.row-at-row.ensures.row c.supplement-supplement.ensures.supplement).power_rate in
     let more = added_in_range sheet.sheet sheet.checked c.args.choice _ _ _ c.row_number.ensures.row c.row-at-row.ensures.row c.supplement-supplement.ensures.supplement in

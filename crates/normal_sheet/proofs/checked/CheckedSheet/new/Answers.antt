@@ -4,6 +4,6 @@ use Rattle.refusals.specs.declared.tariff.TariffRefusal.{TariffRefusal}
 use Rattle.normal_sheet.specs.Ranges.{in_order}
 use Rattle.normal_sheet.proofs.checked.CheckedSheet.new.Goals as goal
 
-pub invariant-of-result : goal.invariant-of-result
+pub invariant_of-result : goal.invariant_of-result
 unfolding in_order
-invariant-of-result c = (sym (ap (λ (r : Result (Unit {0}) TariffRefusal). is_ok r) c.in-ok-check.ensures.answer), tt)
+invariant_of-result c = (sym (ap (λ (r : Result (Unit {0}) TariffRefusal). is_ok r) c.in_ok-check.ensures.answer), tt)
