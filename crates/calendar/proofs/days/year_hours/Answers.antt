@@ -3,10 +3,10 @@ use Rattle.std.proofs.Common.{arith, rules}
 use Rattle.calendar.specs.Hours.{year_hours}
 use Rattle.calendar.proofs.days.year_hours.Goals as goal
 
-pub returns-then-is-leap : goal.returns-then-is-leap
+pub returns-then-is_leap : goal.returns-then-is_leap
 unfolding year_hours
-returns-then-is-leap c = record { hours = search rules; at_most = omega arith }
+returns-then-is_leap c = record { hours = search rules; at_most = omega arith }
 
-pub returns-else-is-leap : goal.returns-else-is-leap
+pub returns-else-is_leap : goal.returns-else-is_leap
 unfolding year_hours
-returns-else-is-leap c = record { hours = search rules; at_most = omega arith }
+returns-else-is_leap c = record { hours = search rules; at_most = omega arith }

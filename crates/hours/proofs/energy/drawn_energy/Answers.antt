@@ -5,7 +5,7 @@ use Rattle.hours.specs.declared.record.HourRecord.{HourRecord}
 use Rattle.hours.specs.Values.{energy_in, limited, other}
 use Rattle.hours.proofs.Energies.{drawn_at, energy_more, energy_none}
 use Rattle.hours.proofs.energy.drawn_energy.Goals as goal
-use Rattle.hours.proofs.energy.drawn_energy.Goals.{then-is-peak-load, else-is-peak-load}
+use Rattle.hours.proofs.energy.drawn_energy.Goals.{then-is_peak_load, else-is_peak_load}
 
 pub loop-i-preserved : goal.loop-i-preserved
 loop-i-preserved c =
@@ -19,19 +19,19 @@ loop-i-preserved c =
     let most = c.of.ensures.at_most in
     let same = c.from-drawn.ensures in
     let inv = c.loop-i.invariant in
-    elim c.if-is-peak-load.branch [
-      | then-is-peak-load w ↦
+    elim c.if-is_peak_load.branch [
+      | then-is_peak_load w ↦
           let is : peaks (first + i) ≡ true = search rules in
           let counted : cond (peaks (first + i)) (drawn_at hours i) 0 ≡ drawn_at hours i = ap (λ (t : Bool). cond t (drawn_at hours i) 0) is in
           let left_out : cond (not (peaks (first + i))) (drawn_at hours i) 0 ≡ 0 = ap (λ (t : Bool). cond (not t) (drawn_at hours i) 0) is in
-          let a = w.peak-load-is in
+          let a = w.peak_load-is in
           let b = w.other-is in
           (omega arith, omega arith, omega arith, omega arith)
-      | else-is-peak-load w ↦
+      | else-is_peak_load w ↦
           let is : peaks (first + i) ≡ false = search rules in
           let left_out : cond (peaks (first + i)) (drawn_at hours i) 0 ≡ 0 = ap (λ (t : Bool). cond t (drawn_at hours i) 0) is in
           let counted : cond (not (peaks (first + i))) (drawn_at hours i) 0 ≡ drawn_at hours i = ap (λ (t : Bool). cond (not t) (drawn_at hours i) 0) is in
-          let a = w.peak-load-is in
+          let a = w.peak_load-is in
           let b = w.other-is in
           (omega arith, omega arith, omega arith, omega arith)
     ]

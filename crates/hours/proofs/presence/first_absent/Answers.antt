@@ -4,8 +4,8 @@ use Rattle.hours.specs.Presence.{present}
 use Rattle.hours.proofs.Absent.{absent_here, absent_later}
 use Rattle.hours.proofs.presence.first_absent.Goals as goal
 
-pub returns-then-not-is-present : goal.returns-then-not-is-present
-returns-then-not-is-present c =
+pub returns-then-not-is_present : goal.returns-then-not-is_present
+returns-then-not-is_present c =
     let h : ℕ = c.loop-hour.hour in
     let gone : present c.args.words.now h ≡ false = search rules in
     record { first = sym (absent_here (present c.args.words.now) h (c.args.span.end - h) (omega arith) gone) ∙ c.loop-hour.invariant }

@@ -3,10 +3,10 @@ use Rattle.std.proofs.Common.{rules}
 use Rattle.normal_tariff.specs.Meaning.{permitted_to}
 use Rattle.normal_tariff.proofs.making.is_permitted.Goals as goal
 
-pub returns-then-is-open : goal.returns-then-is-open
+pub returns-then-is_open : goal.returns-then-is_open
 unfolding permitted_to
-returns-then-is-open c = search rules
+returns-then-is_open c = search rules
 
-pub returns-else-is-open : goal.returns-else-is-open
+pub returns-else-is_open : goal.returns-else-is_open
 unfolding permitted_to
-returns-else-is-open c = search rules
+returns-else-is_open c = search rules

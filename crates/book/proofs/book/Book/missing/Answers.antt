@@ -12,7 +12,7 @@ use Rattle.book.proofs.book.Book.missing.Goals as goal
 
 pub overflow_sub-result-2 : goal.overflow_sub-result-2
 overflow_sub-result-2 c =
-    let span = c.hours-of-span.result in
+    let span = c.hours_of-span.result in
     let both = count_both (present c.args.words.now) span.first (span.end - span.first) in
     let ones = c.count_present.ensures.count in
     omega arith
@@ -23,14 +23,14 @@ returns c =
     let ws = c.args.words.now in
     let number : ℕ = c.args.number in
     let o : Opening = c.in_ok-opening.opening in
-    let span = c.hours-of-span.result in
+    let span = c.hours_of-span.result in
     let n : ℕ = span.end - span.first in
     let opened = c.in_ok-opening.ensures.answer in
     let same : c.args.self.now.opening ≡ Some o = opened_some c.args.self.now.opening o opened in
     let year = c.calendar_of.ensures.year in
-    let first : span.first ≡ first_hour o.year number = c.hours-of-span.ensures.first ∙ ap (λ (y : ℕ). first_hour y number) year in
-    let end : span.end ≡ end_hour o.year number = c.hours-of-span.ensures.end ∙ ap (λ (y : ℕ). end_hour y number) year in
-    let last = end_hour_high o.year number (number_high number c.in_ok-check-number.field-0 c.in_ok-check-number.ensures.answer) in
+    let first : span.first ≡ first_hour o.year number = c.hours_of-span.ensures.first ∙ ap (λ (y : ℕ). first_hour y number) year in
+    let end : span.end ≡ end_hour o.year number = c.hours_of-span.ensures.end ∙ ap (λ (y : ℕ). end_hour y number) year in
+    let last = end_hour_high o.year number (number_high number c.in_ok-check_number.field-0 c.in_ok-check_number.ensures.answer) in
     let forward = span.forward in
     let inside : span.first + n ≤ year_hours o.year = omega arith in
     let ones : n - c.count_present.result ≡ count (λ h. not (holds (read (state c.args.self.now.opening rs ws)) h)) (first_hour o.year number) (end_hour o.year number - first_hour o.year number) =
@@ -40,6 +40,6 @@ returns c =
     ∙ ap₂ (λ (f e : ℕ). count (λ h. not (holds (read (state c.args.self.now.opening rs ws)) h)) f (e - f)) first end in
     record {
       answer = missing_told (length rs) (length ws) (read (state c.args.self.now.opening rs ws)) o number (n - c.count_present.result)
-          c.in_ok-check-memory.field-0 c.in_ok-check-number.field-0
-          c.in_ok-check-memory.ensures.answer opened c.in_ok-check-number.ensures.answer ones;
+          c.in_ok-check_memory.field-0 c.in_ok-check_number.field-0
+          c.in_ok-check_memory.ensures.answer opened c.in_ok-check_number.ensures.answer ones;
     }

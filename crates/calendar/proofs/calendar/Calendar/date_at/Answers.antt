@@ -7,8 +7,8 @@ use Rattle.calendar.proofs.DateLaws.{month_of_day_from, month_of_day_near, date_
 use Rattle.calendar.proofs.HourLaws.{midnight_in_year, day_of_midnight}
 use Rattle.calendar.proofs.calendar.Calendar.date_at.Goals as goal
 
-pub month-at-month-requires : goal.month-at-month-requires
-month-at-month-requires c = omega (arith, midnight_in_year c.args.self.now.year.number c.args.day c.requires)
+pub month_at-month-requires : goal.month_at-month-requires
+month_at-month-requires c = omega (arith, midnight_in_year c.args.self.now.year.number c.args.day c.requires)
 
 -- the month, from what `midnight` and `month_at` answer
 month_is : (y d h m : ℕ) → h ≡ midnight y d → m ≡ month_of y h → m ≡ month_of_day y d

@@ -13,8 +13,8 @@ loop-number-preserved c =
     let e : n + 1 - 1 ≡ n = omega arith in
     rw e (omega arith)
 
-pub returns-then-hour-month-end : goal.returns-then-hour-month-end
-returns-then-hour-month-end c =
+pub returns-then-hour-month_end : goal.returns-then-hour-month_end
+returns-then-hour-month_end c =
     let y : ℕ = c.args.self.now.year.number in
     let n : ℕ = c.loop-number.number in
     let e : suc (n - 1) ≡ n = omega arith in

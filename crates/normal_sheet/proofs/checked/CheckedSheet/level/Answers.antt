@@ -24,15 +24,15 @@ module _ (sheet : NormalSheet) (ok : in_order sheet ≡ true) (choice number : �
 pub overflow_add-result : goal.overflow_add-result
 overflow_add-result c =
     let sheet = c.args.self.now in
-    let row = (row_in_range sheet.sheet sheet.checked c.args.choice _ _ _ c.row_number.ensures.row c.row-at-row.ensures.row c.supplement-supplement.ensures.supplement).fixed_fee in
-    let more = added_in_range sheet.sheet sheet.checked c.args.choice _ _ _ c.row_number.ensures.row c.row-at-row.ensures.row c.supplement-supplement.ensures.supplement in
+    let row = (row_in_range sheet.sheet sheet.checked c.args.choice _ _ _ c.row_number.ensures.row c.row_at-row.ensures.row c.supplement-supplement.ensures.supplement).fixed_fee in
+    let more = added_in_range sheet.sheet sheet.checked c.args.choice _ _ _ c.row_number.ensures.row c.row_at-row.ensures.row c.supplement-supplement.ensures.supplement in
     omega arith
 
 pub overflow_add-result-2 : goal.overflow_add-result-2
 overflow_add-result-2 c =
     let sheet = c.args.self.now in
-    let row = (row_in_range sheet.sheet sheet.checked c.args.choice _ _ _ c.row_number.ensures.row c.row-at-row.ensures.row c.supplement-supplement.ensures.supplement).power_rate in
-    let more = added_in_range sheet.sheet sheet.checked c.args.choice _ _ _ c.row_number.ensures.row c.row-at-row.ensures.row c.supplement-supplement.ensures.supplement in
+    let row = (row_in_range sheet.sheet sheet.checked c.args.choice _ _ _ c.row_number.ensures.row c.row_at-row.ensures.row c.supplement-supplement.ensures.supplement).power_rate in
+    let more = added_in_range sheet.sheet sheet.checked c.args.choice _ _ _ c.row_number.ensures.row c.row_at-row.ensures.row c.supplement-supplement.ensures.supplement in
     omega arith
 
 -- a row with other prices
@@ -56,9 +56,9 @@ pub returns : goal.returns
 unfolding level_of at_prices
 returns c =
     let sheet = c.args.self.now in
-    let row = c.row-at-row.result in
-    let bare = row_in_range sheet.sheet sheet.checked c.args.choice _ _ _ c.row_number.ensures.row c.row-at-row.ensures.row c.supplement-supplement.ensures.supplement in
-    let found = row_is sheet.sheet sheet.checked c.args.choice _ _ _ c.row_number.ensures.row c.row-at-row.ensures.row c.supplement-supplement.ensures.supplement in
+    let row = c.row_at-row.result in
+    let bare = row_in_range sheet.sheet sheet.checked c.args.choice _ _ _ c.row_number.ensures.row c.row_at-row.ensures.row c.supplement-supplement.ensures.supplement in
+    let found = row_is sheet.sheet sheet.checked c.args.choice _ _ _ c.row_number.ensures.row c.row_at-row.ensures.row c.supplement-supplement.ensures.supplement in
     record {
       level =
           ap₂ (at_prices row c.supplement-supplement.result) (price_back row.peak_load_price bare.peak_load_price) (price_back row.other_price bare.other_price)
