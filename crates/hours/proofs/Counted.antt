@@ -1,5 +1,5 @@
 -- The ones of a word are its present hours: counting a part of the year word by word.
-use Rattle.std.proofs.Common.{◌≡◌, ℕ, zero, suc, ◌+◌, ◌-◌, ◌*◌, ◌/◌, ◌%◌, ◌^◌, ◌<◌, ◌≤◌, Bool, true, false, cond, not, eqb, List, get_or, sym, refl, ap, ◌∙◌, ap₂, add-one, arith, lit<}
+use Rattle.std.proofs.Common.{◌≡◌, ℕ, zero, suc, ◌+◌, ◌*◌, ◌/◌, ◌%◌, ◌^◌, ◌<◌, ◌≤◌, Bool, true, false, cond, not, eqb, List, get_or, sym, refl, ap, ◌∙◌, ap₂, add-one, arith, lit<}
 use native.Mathlib.Nat.{mod-one}
 use lib.Count.{ones, ones_cat, ones_in}
 use lib.Pow.{mod-pow-add}

@@ -1,8 +1,7 @@
 -- The totals of a part, hour by hour: those so far and those of the hours that are left make those of the part.
-use Rattle.std.proofs.Common.{◌≡◌, ℕ, suc, ◌+◌, ◌*◌, ◌<◌, ◌≤◌, max, Bool, true, false, cond, not, List, map, length, get_or, drop, ℤ, pos, neg_ℤ, sym, ap, ◌∙◌, arith}
+use Rattle.std.proofs.Common.{◌≡◌, ℕ, suc, ◌+◌, ◌*◌, ◌<◌, ◌≤◌, max, Bool, true, false, cond, not, List, map, length, get_or, drop, ℤ, pos, neg_ℤ, ap, ◌∙◌, arith}
 use Rattle.std.proofs.lemmas.List.{at_drop_all, at_drop_more}
 use Rattle.std.proofs.lemmas.Int.{ints}
-use Rattle.std.proofs.lemmas.Bool.{cases_Bool}
 use Rattle.calendar.specs.PeakLoad.{peak_load}
 use Rattle.hours.specs.declared.record.HourRecord.{HourRecord}
 use Rattle.hours.specs.declared.flow.Flow.{Flow}
@@ -10,7 +9,7 @@ use Rattle.hours.specs.declared.flow.Flow.TheVariants.{Drawn, FedIn, ReactiveDra
 use Rattle.hours.specs.declared.scan.Totals.{Totals}
 use Rattle.hours.specs.declared.scan.Peak.{Peak}
 use Rattle.hours.specs.declared.scan.Peak.TheVariants as peak
-use Rattle.hours.specs.Totals.{Within, nothing, peak_of, totals_of, with_hour}
+use Rattle.hours.specs.Totals.{nothing, peak_of, totals_of, with_hour}
 use Rattle.hours.specs.Values.{energy_in, flow_of, highest_in, highest_of, limit, limited, other, positive}
 
 abbrev pub blank : HourRecord

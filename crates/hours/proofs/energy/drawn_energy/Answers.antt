@@ -1,5 +1,5 @@
 -- `drawn_energy` adds one hour a turn, to the energy of its kind.
-use Rattle.std.proofs.Common.{◌≡◌, ℕ, ◌+◌, ◌≤◌, Bool, true, false, cond, not, List, map, length, sym, ap, ◌∙◌, arith, rules}
+use Rattle.std.proofs.Common.{◌≡◌, ℕ, ◌+◌, Bool, true, false, cond, not, List, map, ap, ◌∙◌, arith, rules}
 use Rattle.calendar.specs.PeakLoad.{peak_load}
 use Rattle.hours.specs.declared.record.HourRecord.{HourRecord}
 use Rattle.hours.specs.Values.{energy_in, limited, other}

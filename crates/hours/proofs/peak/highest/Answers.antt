@@ -1,5 +1,5 @@
 -- `highest` takes one hour a turn.
-use Rattle.std.proofs.Common.{◌≡◌, ℕ, ◌+◌, ◌<◌, max, List, map, length, get_or, drop, pos, ap, ◌∙◌, arith, rules}
+use Rattle.std.proofs.Common.{◌≡◌, ℕ, ◌+◌, max, List, map, get_or, drop, pos, ap, ◌∙◌, arith}
 use Rattle.std.proofs.lemmas.List.{at_drop_all, at_drop_more}
 use Rattle.hours.specs.declared.record.HourRecord.{HourRecord}
 use Rattle.hours.specs.Values.{flow_of, highest_of, limited}

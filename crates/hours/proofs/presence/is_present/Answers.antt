@@ -1,5 +1,5 @@
 -- `is_present` answers the hour's bit.
-use Rattle.std.proofs.Common.{◌≡◌, ℕ, ◌/◌, ◌%◌, ◌^◌, eqb, get_or, ap, ◌∙◌, ap₂, rules}
+use Rattle.std.proofs.Common.{◌≡◌, ℕ, ◌/◌, ◌%◌, ◌^◌, eqb, get_or, ap, ◌∙◌, rules}
 use Rattle.std.proofs.lemmas.Nat.{and_mask}
 use Rattle.hours.specs.Presence.{present}
 use Rattle.hours.proofs.presence.is_present.Goals as goal

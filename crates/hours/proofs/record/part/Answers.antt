@@ -1,5 +1,5 @@
 -- `part` is the part of the year, as far as it is lent.
-use Rattle.std.proofs.Common.{◌≡◌, ◌-◌, min, length, arith}
+use Rattle.std.proofs.Common.{◌≡◌, min, length, arith}
 use Rattle.std.proofs.lemmas.List.{length-drop, length-take}
 use Rattle.hours.proofs.Clips.{clipped}
 use Rattle.hours.proofs.record.part.Goals as goal
