@@ -1,7 +1,6 @@
 -- Read as a plain book, the memory after a call is the plain book before it with exactly the accepted change.
-use Rattle.std.proofs.Common.{◌≡◌, ℕ, ◌/◌, ◌<◌, ◌≤◌, Bool, true, false, cond, ◌&&◌, ◌||◌, eqb, ltb, ◌≢◌, List, length, get_or, set, ℤ, pos, negsuc, Some, None, Ok, Err, Option, Result, sym, refl, ap, ◌∙◌, ap₂, inl, inr, arith}
+use Rattle.std.proofs.Common.{◌≡◌, ℕ, ◌/◌, ◌<◌, ◌≤◌, Bool, true, false, cond, ◌&&◌, ltb, ◌≢◌, List, length, get_or, set, ℤ, Some, None, Ok, Err, Option, sym, refl, ap, ◌∙◌, ap₂, inl, inr, arith}
 use mathlib.Core.Path.{fun_ext}
-use lib.Signed.{lt_z}
 use Rattle.std.proofs.lemmas.List.{get_or-set_other, get_or-set_same}
 use Rattle.std.proofs.lemmas.Bool.{and_parts, cases_Bool, cases_eq, eq-eqb, lt-ltb, ltb-true, ne_eqb}
 use Rattle.std.proofs.lemmas.Bool.Decides.{nat_tests}
@@ -13,9 +12,9 @@ use Rattle.hours.specs.Values.{limit, limited}
 use Rattle.hours.proofs.Marks.{cleared_absent, marked_present, others_kept}
 use Rattle.book.specs.declared.account.Opening.{Opening}
 use Rattle.book.specs.declared.account.Subscription.{Subscription}
-use Rattle.book.specs.Answers.{Answer, beyond, choice_answer, hour_answer, limits_answer, memory_answer, opened_answer, there_answer, value_answer}
+use Rattle.book.specs.Answers.{Answer, beyond, choice_answer, hour_answer, limits_answer, memory_answer, there_answer, value_answer}
 use Rattle.book.specs.Memory.{after_amend, after_choose, after_open, after_post, blank, has_value, read, state, value_at}
-use Rattle.book.specs.Plain.{◌then◌, amend_answer, chosen, choose_answer, holds, opened, place_answer, plain, Plain, post_answer, put, with_subscription, written}
+use Rattle.book.specs.Plain.{amend_answer, chosen, choose_answer, holds, opened, place_answer, plain, post_answer, put, with_subscription, written}
 use Rattle.book.proofs.Joins.{passed}
 use Rattle.book.proofs.Missing.{holds_reads}
 

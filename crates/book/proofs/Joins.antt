@@ -1,5 +1,5 @@
 -- Tests one after the other: what an answer that is accepted has passed.
-use Rattle.std.proofs.Common.{◌≡◌, ℕ, Some, None, Ok, Err, Option, Result, sym, refl, ap, ◌∙◌, subst, arith}
+use Rattle.std.proofs.Common.{◌≡◌, ℕ, Some, None, Ok, Err, Option, refl, ap, arith}
 use Rattle.book.specs.declared.account.Opening.{Opening}
 use Rattle.book.specs.Answers.{Answer, opened_answer}
 use Rattle.book.specs.Plain.{◌then◌}

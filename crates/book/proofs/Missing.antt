@@ -1,5 +1,5 @@
 -- The hours without a value of a part of the year: those whose bit is zero.
-use Rattle.std.proofs.Common.{◌≡◌, ℕ, ◌+◌, ◌-◌, ◌<◌, ◌≤◌, Bool, true, false, cond, not, ◌&&◌, eqb, ltb, leb, List, get_or, is_some, Some, None, Ok, Err, Option, sym, refl, ap, ◌∙◌, ap₂, arith}
+use Rattle.std.proofs.Common.{◌≡◌, ℕ, ◌+◌, ◌-◌, ◌<◌, ◌≤◌, Bool, true, false, cond, not, ◌&&◌, eqb, List, get_or, is_some, Some, None, Ok, Option, refl, ap, ◌∙◌, arith}
 use Rattle.std.proofs.lemmas.Bool.{lt-ltb}
 use Rattle.std.proofs.lemmas.Bool.Decides.{nat_tests}
 use Rattle.calendar.specs.Hours.{month_end, year_hours}
@@ -9,7 +9,7 @@ use Rattle.hours.specs.Presence.{count, present}
 use Rattle.hours.specs.Values.{limited}
 use Rattle.hours.proofs.Counted.{count_alike, count_both}
 use Rattle.book.specs.declared.account.Opening.{Opening}
-use Rattle.book.specs.Memory.{blank, has_value, read, State, state, value_at}
+use Rattle.book.specs.Memory.{blank, has_value, read, state}
 use Rattle.book.specs.Answers.{Answer, memory_answer, number_answer, opened_answer}
 use Rattle.book.specs.Plain.{◌then◌, end_hour, first_hour, holds, missing_answer, Plain}
 use Rattle.book.proofs.Joins.{passes}

@@ -1,5 +1,5 @@
 -- The tests of the calls, one for each row of the table of refusals.
-use Rattle.std.specs.Prelude.{ℕ, Bool, cond, ◌&&◌, ◌||◌, ℤ, pos, negsuc, Some, None, Ok, Err, Option, Result, int_lt, nat_le, nat_lt}
+use Rattle.std.specs.Prelude.{ℕ, Bool, cond, ◌&&◌, ◌||◌, ℤ, pos, negsuc, Ok, Err, Option, Result, int_lt, nat_le, nat_lt}
 use Rattle.std.specs.Option.{ok_or}
 use Rattle.calendar.specs.Hours.{year_hours}
 use Rattle.calendar.specs.Years.{served}

@@ -1,5 +1,5 @@
 -- Book and lent memory: the plain book that they stand for, and what each call leaves in them.
-use Rattle.std.specs.Prelude.{ℕ, Bool, false, cond, ◌&&◌, List, pos, Some, None, Ok, Err, Option, Result, nat_lt, slice_index_or, slice_set}
+use Rattle.std.specs.Prelude.{ℕ, Bool, false, cond, ◌&&◌, List, pos, Some, None, Ok, Err, Option, nat_lt, slice_index_or, slice_set}
 use Rattle.calendar.specs.Hours.{year_hours}
 use Rattle.hours.specs.declared.record.HourRecord.{HourRecord}
 use Rattle.hours.specs.Presence.{cleared, marked, present}

@@ -1,5 +1,5 @@
 -- The plain book: what a book holds and, for each hour, a value or none; and what each call answers on it and makes of it.
-use Rattle.std.specs.Prelude.{ℕ, ◌-◌, Bool, cond, not, ◌&&◌, List, is_some, Some, None, Ok, Err, Option, Result, ◌==◌}
+use Rattle.std.specs.Prelude.{ℕ, ◌-◌, Bool, cond, not, is_some, Some, None, Ok, Err, Option, ◌==◌}
 use Rattle.calendar.specs.Hours.{month_end, month_first, year_hours}
 use Rattle.hours.specs.declared.record.HourRecord.{HourRecord}
 use Rattle.hours.specs.Presence.{count}
