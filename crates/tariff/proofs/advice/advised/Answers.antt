@@ -14,13 +14,13 @@ loop-choice-preserved g c =
     let K : ℕ → ℕ → ℤ = charge_of (g.T.Tariff.amount t) in
     let low : ℕ = c.args.low in
     let high : ℕ = c.args.high in
-    let n : ℕ = g.Limits-as-Limits.choices in
+    let n : ℕ = g.T.Limits.Limits.choices in
     let k : ℕ = c.loop-choice.choice in
     elim c.if-permits.branch [
       | then-permits w ↦
           let answer = sym c.permits.ensures.answer ∙ w.if-permits.true in
-          let told = to_z-of_z w64 w.charge-at-charge.result (record { sfits = w.charge-at-charge.type_inv }) ∙ w.charge-at-charge.ensures.charge in
-          subst (Best permitted K low high (k + 1)) (sym (w.best-is ∙ ap Some w.better.ensures.better)) (taken permitted K low high k w.settled-kw.result (to_z w64 (of_z w64 w.charge-at-charge.result)) c.loop-choice.best (allowed_permitted n permitted k answer) w.settled-kw.ensures.settles told c.loop-choice.invariant)
+          let told = to_z-of_z w64 w.charge_at-charge.result (record { sfits = w.charge_at-charge.type_inv }) ∙ w.charge_at-charge.ensures.charge in
+          subst (Best permitted K low high (k + 1)) (sym (w.best-is ∙ ap Some w.better.ensures.better)) (taken permitted K low high k w.settled-kw.result (to_z w64 (of_z w64 w.charge_at-charge.result)) c.loop-choice.best (allowed_permitted n permitted k answer) w.settled-kw.ensures.settles told c.loop-choice.invariant)
       | else-permits w ↦
           let answer = sym c.permits.ensures.answer ∙ w.if-permits.false in
           subst (Best permitted K low high (k + 1)) (sym w.best-is) (skipped permitted K low high k c.loop-choice.best (refused_forbidden n permitted k (omega arith) answer) c.loop-choice.invariant)
