@@ -1,5 +1,5 @@
 -- Fields of two bytes: a number that is written reads back, and bytes that are read are written back.
-use Rattle.std.proofs.Common.{◌≡◌, ℕ, ◌+◌, ◌*◌, ◌/◌, ◌%◌, ◌^◌, ◌<◌, List, [], ◌∷◌, ℤ, ap, ◌∙◌, arith, w16, SFits, to_z, of_z}
+use Rattle.std.proofs.Common.{◌≡◌, ℕ, ◌+◌, ◌*◌, ◌/◌, ◌%◌, ◌^◌, ◌<◌, [], ◌∷◌, ℤ, ap, ◌∙◌, arith, w16, SFits, to_z, of_z}
 use Rattle.std.proofs.lemmas.Int.{ints, of_z-to_z, to_z-of_z}
 use Rattle.service_line.specs.Formats.{field2, signed2}
 

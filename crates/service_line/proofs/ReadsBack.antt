@@ -1,11 +1,8 @@
 -- A request that is written reads back as itself.
-use Rattle.std.proofs.Common.{◌≡◌, ℕ, ◌+◌, ◌*◌, ◌/◌, ◌%◌, ◌<◌, Bool, false, cond, eqb, List, [], ◌∷◌, ◌++◌, length, ℤ, None, Ok, Err, Option, Result, refl, ap, ◌∙◌, ap₂, arith, w16, to_z, of_z}
-use Rattle.refusals.specs.declared.frame.FrameRefusal.{FrameRefusal}
-use Rattle.refusals.specs.declared.frame.FrameRefusal.TheVariants.{Check}
+use Rattle.std.proofs.Common.{◌≡◌, Bool, false, cond, length, Ok, Err, refl, ap, ◌∙◌, ap₂, arith}
 use Rattle.refusals.specs.declared.line.LineRefusal.TheVariants.{Length}
-use Rattle.service_line.specs.Formats.{Fitting, frame_of, request_body, request_line, sum_of}
+use Rattle.service_line.specs.Formats.{Fitting, frame_of, request_body, request_line}
 use Rattle.service_line.specs.Frames.{asked, decoded, if_checked}
-use Rattle.service_line.specs.Hex.{text_of}
 use Rattle.service_line.specs.Lines.{bytes_of, carried, first_stranger, ill_sized, unless_stranger}
 use Rattle.service_line.specs.Reading.{by_frame, by_line, reading}
 use Rattle.service_line.specs.declared.request.Request.{Request}

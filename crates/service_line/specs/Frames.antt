@@ -1,5 +1,5 @@
 -- The frame layer: what the bytes of a frame ask, or why they ask nothing.
-use Rattle.std.specs.Prelude.{ℕ, ◌+◌, ◌*◌, ◌%◌, cond, List, [], ◌∷◌, length, ℤ, Some, None, Ok, Err, Option, Result, ◌==◌, slice_index}
+use Rattle.std.specs.Prelude.{ℕ, ◌+◌, ◌*◌, ◌%◌, cond, List, length, ℤ, Some, None, Ok, Err, Option, Result, ◌==◌, slice_index}
 use Rattle.std.proofs.Common.{to_z}
 use Rattle.std.specs.Int.{w16}
 use Rattle.refusals.specs.declared.frame.FrameRefusal.{FrameRefusal}

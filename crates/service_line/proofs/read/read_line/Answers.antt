@@ -8,7 +8,7 @@ use Rattle.service_line.proofs.read.read_line.Goals as goal
 pub returns-in_err-request : goal.returns-in_err-request
 returns-in_err-request c =
     let frame = c.in_ok-frame.frame in
-    let p = err_from_is_err_and c.from-residual-in_err-request.result c.from-residual-in_err-request.ensures.1 in
+    let p = err_from_is_err_and c.from_residual-in_err-request.result c.from_residual-in_err-request.ensures.1 in
     record {
       answers = p.1 ∙ ap Err p.2
           ∙ asks c.args.line.now frame.all frame.len (Err c.in_err-request.field-0.0) c.in_ok-frame.ensures.bytes c.in_err-request.ensures.asks;

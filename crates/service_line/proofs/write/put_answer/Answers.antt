@@ -14,7 +14,7 @@ returns-in-Advice c =
     ∙ ap (λ (charge : List ℕ). 0x12 ∷ told.choice ∷ (field2 told.power ++ charge)) (passed_on told.charge fits)
     ∙ ap answer_body (sym told.is) in
     record {
-      room = c.put-frame-in-Advice.ensures.room;
-      len = c.put-frame-in-Advice.ensures.len ∙ ap (λ (b : List ℕ). length (text_of (frame_of b))) body;
-      text = c.put-frame-in-Advice.ensures.text ∙ ap (λ (b : List ℕ). over (text_of (frame_of b)) c.args.line.now) body;
+      room = c.put_frame-in-Advice.ensures.room;
+      len = c.put_frame-in-Advice.ensures.len ∙ ap (λ (b : List ℕ). length (text_of (frame_of b))) body;
+      text = c.put_frame-in-Advice.ensures.text ∙ ap (λ (b : List ℕ). over (text_of (frame_of b)) c.args.line.now) body;
     }

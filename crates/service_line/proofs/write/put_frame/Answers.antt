@@ -1,5 +1,5 @@
 -- `put_frame` writes the body, then the check.
-use Rattle.std.proofs.Common.{◌≡◌, ℕ, ◌+◌, ◌*◌, ◌/◌, ◌%◌, ◌<◌, List, [], ◌∷◌, ◌++◌, length, set, refl, ap, ◌∙◌, arith}
+use Rattle.std.proofs.Common.{ℕ, ◌+◌, ◌*◌, ◌/◌, ◌%◌, ◌<◌, List, [], ◌∷◌, ◌++◌, length, set, refl, ap, ◌∙◌, arith}
 use Rattle.service_line.specs.Formats.{over}
 use Rattle.service_line.specs.Hex.{digit_of, text_of}
 use Rattle.service_line.proofs.Texts.{length_frame, push_over}

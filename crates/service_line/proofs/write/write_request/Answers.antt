@@ -1,7 +1,7 @@
 -- `write_request` writes a line that reads back as the request.
-use Rattle.std.proofs.Common.{◌≡◌, ℕ, List, length, take, drop, sym, ap, ◌∙◌}
+use Rattle.std.proofs.Common.{◌≡◌, ℕ, length, take, drop, sym, ap, ◌∙◌}
 use Rattle.std.proofs.lemmas.List.{take_at}
-use Rattle.service_line.specs.Formats.{over, request_line}
+use Rattle.service_line.specs.Formats.{request_line}
 use Rattle.service_line.specs.Reading.{reading}
 use Rattle.service_line.proofs.ReadsBack.{reads_back}
 use Rattle.service_line.proofs.write.write_request.Goals as goal

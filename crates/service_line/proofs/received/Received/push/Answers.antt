@@ -1,5 +1,5 @@
 -- `push` keeps the byte where there is a place for it.
-use Rattle.std.proofs.Common.{◌<◌, ◌≤◌, length, arith}
+use Rattle.std.proofs.Common.{◌<◌, length, arith}
 use Rattle.service_line.proofs.Cuts.{keeps_full, keeps_more}
 use Rattle.service_line.proofs.received.Received.push.Goals as goal
 
