@@ -1,6 +1,5 @@
 -- The level of a choice: 0 to 6 are the sheet's rows, 7 and 8 are T1 and T12 with a supplement.
 use Rattle.std.specs.Prelude.{ℕ, ◌+◌, false, cond, pos, ◌==◌, slice_index_or}
-use Rattle.bills.specs.declared.standing.StandingRates.{StandingRates}
 use Rattle.normal_sheet.specs.declared.sheet.NormalSheet.{NormalSheet}
 use Rattle.normal_sheet.specs.declared.sheet.Row.{Row}
 use Rattle.normal_sheet.specs.declared.sheet.Supplement.{Supplement}

@@ -1,5 +1,5 @@
 -- The test of a normal sheet, every row of it: fees, rates and prices (41), then the free percentages (42).
-use Rattle.std.specs.Prelude.{ℕ, Bool, cond, ◌&&◌, List, is_ok, Ok, Err, Result, slice_index_or}
+use Rattle.std.specs.Prelude.{Bool, cond, ◌&&◌, List, is_ok, Ok, Err, Result, slice_index_or}
 use Rattle.refusals.specs.declared.tariff.TariffRefusal.{TariffRefusal}
 use Rattle.refusals.specs.declared.tariff.TariffRefusal.TheVariants.{OutOfRange, Percentage}
 use Rattle.bills.specs.Ranges.{fee_fits, first_failing, percentage_fits, price_fits, rate_fits, row_answer, standing_fits, ◌then◌}

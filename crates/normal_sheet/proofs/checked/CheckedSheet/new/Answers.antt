@@ -6,4 +6,4 @@ use Rattle.normal_sheet.proofs.checked.CheckedSheet.new.Goals as goal
 
 pub invariant_of-result : goal.invariant_of-result
 unfolding in_order
-invariant_of-result c = (sym (ap (λ (r : Result (Unit {0}) TariffRefusal). is_ok r) c.in_ok-check.ensures.answer), tt)
+invariant_of-result c = record { checked = sym (ap (λ (r : Result (Unit {0}) TariffRefusal). is_ok r) c.in_ok-check.ensures.answer) }
