@@ -70,10 +70,11 @@ def respelled(found, turned):
 
 
 def respelled_line(line, turned):
-    """A comment is prose: only what stands in backticks there is a name."""
+    """A comment is prose: only what stands in backticks there is a name. A string keeps its text."""
     if line.lstrip().startswith(("//", "-- ")):
         return re.sub(r"`[^`]*`", lambda m: TOKEN.sub(lambda n: respelled(n, turned), m.group(0)), line)
-    return TOKEN.sub(lambda m: respelled(m, turned), line)
+    parts = re.split(r'("(?:[^"\\]|\\.)*")', line)
+    return "".join(it if n % 2 else TOKEN.sub(lambda m: respelled(m, turned), it) for n, it in enumerate(parts))
 
 
 def main(argv):

@@ -48,7 +48,7 @@ fn print_day(rt: &HostRuntime, calendar: &Calendar, name: &str, day: u16) -> io:
 fn print_months(rt: &HostRuntime, calendar: &Calendar) -> io::Result<()> {
     println!(rt;
         "\n{:<11}{:>11}{:>8}{:>18}",
-        "Month", "first hour", "hours", "peak_load hours"
+        "Month", "first hour", "hours", "peak-load hours"
     )?;
     for number in 1..13 {
         if let Some(month) = Month::new(number) {
