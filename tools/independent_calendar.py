@@ -153,7 +153,8 @@ def sheet(arguments):
 
 
 def compare_easter(path):
-    table = [int(n) for n in re.findall(r"^ +(\d+),$", open(path, encoding="utf-8").read(), re.M)]
+    rows = [line for line in open(path, encoding="utf-8") if re.fullmatch(r" +(?:\d+, ?)+\n", line)]
+    table = [int(n) for line in rows for n in re.findall(r"\d+", line)]
     rule = [(easter(y) - date(y, 3, 22)).days for y in range(FIRST, LAST + 1)]
     print("equal" if table == rule else "DIFFERENT")
 
