@@ -1,5 +1,5 @@
-// The number of choices and the top kW of a tariff, as numbers that a type holds: a clause of generic code can
-// name what a type holds, and cannot name the value of a plain associated constant.
+// The number of choices and the top kW of a tariff, as numbers that a type holds: what a type holds, a clause of generic
+// code can name.
 ghost use Rattle.std.specs.Prelude.{◌≡◌, ℕ};
 
 // A type that holds both numbers. Generic code has a value of it from a tariff's constants alone.
