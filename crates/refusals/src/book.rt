@@ -1,6 +1,10 @@
 // Layer 3: why the book refuses a call.
 ghost use Rattle.std.specs.Prelude.{◌≡◌};
-ghost use Rattle.refusals.specs.Rows.{book_row, lent_place, quantity_place};
+ghost use Rattle.refusals.specs.Rows.{row, book_row, lent_place, quantity_place};
+
+use super::Entry;
+use std::error::Error;
+use std::fmt;
 
 // The two parts of the memory that a caller lends.
 #[derive(Clone, Copy, PartialEq, Eq, Debug)]
@@ -17,6 +21,15 @@ impl Lent {
             Lent::Records => 0,
             Lent::Words => 1,
         }
+    }
+}
+
+impl fmt::Display for Lent {
+    fn fmt<W: fmt::Write>(&self, f: &mut fmt::Formatter<W>) -> fmt::Result {
+        f.write_str(match self {
+            Lent::Records => "hour records",
+            Lent::Words => "presence words",
+        })
     }
 }
 
@@ -37,6 +50,16 @@ impl Quantity {
             Quantity::ExtraWithdrawal => 2,
             Quantity::ExtraInput => 3,
         }
+    }
+}
+
+impl fmt::Display for Quantity {
+    fn fmt<W: fmt::Write>(&self, f: &mut fmt::Formatter<W>) -> fmt::Result {
+        f.write_str(match self {
+            Quantity::Power => "power",
+            Quantity::ExtraWithdrawal => "extra reactive withdrawal",
+            Quantity::ExtraInput => "extra reactive input",
+        })
     }
 }
 
@@ -69,41 +92,52 @@ pub enum BookRefusal {
 }
 
 impl BookRefusal {
-    pub(crate) fn number(&self) -> u8
-        ensures number { result ≡ (book_row self.now).number }
-    {
-        match self {
-            BookRefusal::Memory { .. } => 20,
-            BookRefusal::Year { .. } => 21,
-            BookRefusal::Area { .. } => 22,
-            BookRefusal::Connection { .. } => 23,
-            BookRefusal::NeverOpened => 24,
-            BookRefusal::Hour { .. } => 25,
-            BookRefusal::Value { .. } => 26,
-            BookRefusal::Present { .. } => 27,
-            BookRefusal::Absent { .. } => 28,
-            BookRefusal::Choice { .. } => 29,
-            BookRefusal::Limit { .. } => 30,
-            BookRefusal::Number { .. } => 31,
-        }
-    }
-
-    pub(crate) fn place(&self) -> u32
-        ensures place { result ≡ (book_row self.now).place }
+    pub(crate) fn entry(&self) -> Entry
+        ensures { row 3 result.number result.place ≡ book_row self.now }
     {
         match *self {
-            BookRefusal::Memory { short } => short.place(),
-            BookRefusal::Year { year } => u32::from(year),
-            BookRefusal::Area { area } => u32::from(area),
-            BookRefusal::Connection { connection } => u32::from(connection),
-            BookRefusal::NeverOpened => 0,
-            BookRefusal::Hour { hour } => u32::from(hour),
-            BookRefusal::Value { hour } => u32::from(hour),
-            BookRefusal::Present { hour } => u32::from(hour),
-            BookRefusal::Absent { hour } => u32::from(hour),
-            BookRefusal::Choice { choice } => u32::from(choice),
-            BookRefusal::Limit { quantity } => quantity.place(),
-            BookRefusal::Number { number } => u32::from(number),
+            BookRefusal::Memory { short } => Entry::new(20, short.place()),
+            BookRefusal::Year { year } => Entry::new(21, u32::from(year)),
+            BookRefusal::Area { area } => Entry::new(22, u32::from(area)),
+            BookRefusal::Connection { connection } => Entry::new(23, u32::from(connection)),
+            BookRefusal::NeverOpened => Entry::new(24, 0),
+            BookRefusal::Hour { hour } => Entry::new(25, u32::from(hour)),
+            BookRefusal::Value { hour } => Entry::new(26, u32::from(hour)),
+            BookRefusal::Present { hour } => Entry::new(27, u32::from(hour)),
+            BookRefusal::Absent { hour } => Entry::new(28, u32::from(hour)),
+            BookRefusal::Choice { choice } => Entry::new(29, u32::from(choice)),
+            BookRefusal::Limit { quantity } => Entry::new(30, quantity.place()),
+            BookRefusal::Number { number } => Entry::new(31, u32::from(number)),
         }
     }
 }
+
+impl fmt::Display for BookRefusal {
+    fn fmt<W: fmt::Write>(&self, f: &mut fmt::Formatter<W>) -> fmt::Result {
+        match *self {
+            BookRefusal::Memory { short } => write!(f, "too few {short} are lent"),
+            BookRefusal::Year { year } => write!(f, "year {year} is not 2002 to 2299"),
+            BookRefusal::Area { area } => write!(f, "area {area} is not 1 to 3"),
+            BookRefusal::Connection { connection } => write!(
+                f,
+                "connection {connection} is above 7"
+            ),
+            BookRefusal::NeverOpened => f.write_str("the book was never opened"),
+            BookRefusal::Hour { hour } => write!(f, "hour {hour} is past the year's last"),
+            BookRefusal::Value { hour } => write!(
+                f,
+                "a value beyond 32000 either way for hour {hour}"
+            ),
+            BookRefusal::Present { hour } => write!(f, "hour {hour} has a value"),
+            BookRefusal::Absent { hour } => write!(f, "hour {hour} has no value"),
+            BookRefusal::Choice { choice } => write!(
+                f,
+                "choice {choice} is not open to the connection"
+            ),
+            BookRefusal::Limit { quantity } => write!(f, "{quantity} over its limit"),
+            BookRefusal::Number { number } => write!(f, "number {number} is not 1 to 13"),
+        }
+    }
+}
+
+impl Error for BookRefusal {}

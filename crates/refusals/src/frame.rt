@@ -1,6 +1,10 @@
 // Layer 2: why the bytes of a frame are no request.
 ghost use Rattle.std.specs.Prelude.{◌≡◌};
-ghost use Rattle.refusals.specs.Rows.{frame_row};
+ghost use Rattle.refusals.specs.Rows.{row, frame_row};
+
+use super::Entry;
+use std::error::Error;
+use std::fmt;
 
 #[derive(Clone, Copy, PartialEq, Eq, Debug)]
 pub enum FrameRefusal {
@@ -13,23 +17,31 @@ pub enum FrameRefusal {
 }
 
 impl FrameRefusal {
-    pub(crate) fn number(&self) -> u8
-        ensures number { result ≡ (frame_row self.now).number }
-    {
-        match self {
-            FrameRefusal::Kind { .. } => 13,
-            FrameRefusal::Length { .. } => 14,
-            FrameRefusal::Check { .. } => 15,
-        }
-    }
-
-    pub(crate) fn place(&self) -> u32
-        ensures place { result ≡ (frame_row self.now).place }
+    pub(crate) fn entry(&self) -> Entry
+        ensures { row 2 result.number result.place ≡ frame_row self.now }
     {
         match *self {
-            FrameRefusal::Kind { kind } => u32::from(kind),
-            FrameRefusal::Length { bytes } => u32::from(bytes),
-            FrameRefusal::Check { sum } => u32::from(sum),
+            FrameRefusal::Kind { kind } => Entry::new(13, u32::from(kind)),
+            FrameRefusal::Length { bytes } => Entry::new(14, u32::from(bytes)),
+            FrameRefusal::Check { sum } => Entry::new(15, u32::from(sum)),
         }
     }
 }
+
+impl fmt::Display for FrameRefusal {
+    fn fmt<W: fmt::Write>(&self, f: &mut fmt::Formatter<W>) -> fmt::Result {
+        match *self {
+            FrameRefusal::Kind { kind } => write!(f, "{kind:02X} is no kind of request"),
+            FrameRefusal::Length { bytes } => write!(
+                f,
+                "a frame of this kind has not {bytes} bytes"
+            ),
+            FrameRefusal::Check { sum } => write!(
+                f,
+                "the bytes add up to {sum} modulo 256, not to 0"
+            ),
+        }
+    }
+}
+
+impl Error for FrameRefusal {}

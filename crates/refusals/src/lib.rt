@@ -13,7 +13,24 @@ mod tariff;
 pub use book::{BookRefusal, Lent, Quantity};
 pub use frame::FrameRefusal;
 pub use line::LineRefusal;
+use std::error::Error;
+use std::fmt;
 pub use tariff::TariffRefusal;
+
+// What the table of refusals has of a refusal beside its layer.
+#[derive(Clone, Copy)]
+struct Entry {
+    number: u8,
+    place: u32,
+}
+
+impl Entry {
+    fn new(number: u8, place: u32) -> Entry
+        ensures { result ≡ record { number = number; place = place } }
+    {
+        Entry { number, place }
+    }
+}
 
 // Why a line, a frame, a call on the book or a sheet is refused.
 #[derive(Clone, Copy, PartialEq, Eq, Debug)]
@@ -41,26 +58,41 @@ impl Refusal {
     pub fn number(&self) -> u8
         ensures number { result ≡ (row_of self.now).number }
     {
-        match self {
-            Refusal::Line(refusal) => refusal.number(),
-            Refusal::Frame(refusal) => refusal.number(),
-            Refusal::Book(refusal) => refusal.number(),
-            Refusal::Tariff(refusal) => refusal.number(),
-        }
+        self.entry().number
     }
 
     // Where the fault lies: what it counts depends on the number.
     pub fn place(&self) -> u32
         ensures place { result ≡ (row_of self.now).place }
     {
+        self.entry().place
+    }
+
+    fn entry(&self) -> Entry
+        ensures number { result.number ≡ (row_of self.now).number }
+        ensures place { result.place ≡ (row_of self.now).place }
+    {
         match self {
-            Refusal::Line(refusal) => refusal.place(),
-            Refusal::Frame(refusal) => refusal.place(),
-            Refusal::Book(refusal) => refusal.place(),
-            Refusal::Tariff(refusal) => refusal.place(),
+            Refusal::Line(refusal) => refusal.entry(),
+            Refusal::Frame(refusal) => refusal.entry(),
+            Refusal::Book(refusal) => refusal.entry(),
+            Refusal::Tariff(refusal) => refusal.entry(),
         }
     }
 }
+
+impl fmt::Display for Refusal {
+    fn fmt<W: fmt::Write>(&self, f: &mut fmt::Formatter<W>) -> fmt::Result {
+        match self {
+            Refusal::Line(refusal) => refusal.fmt(f),
+            Refusal::Frame(refusal) => refusal.fmt(f),
+            Refusal::Book(refusal) => refusal.fmt(f),
+            Refusal::Tariff(refusal) => refusal.fmt(f),
+        }
+    }
+}
+
+impl Error for Refusal {}
 
 impl From<LineRefusal> for Refusal {
     ghost from_gives = { λ e r. r ≡ Line e };

@@ -1,6 +1,10 @@
 // Layer 1: why the text of a line carries no frame.
 ghost use Rattle.std.specs.Prelude.{◌≡◌};
-ghost use Rattle.refusals.specs.Rows.{line_row};
+ghost use Rattle.refusals.specs.Rows.{row, line_row};
+
+use super::Entry;
+use std::error::Error;
+use std::fmt;
 
 #[derive(Clone, Copy, PartialEq, Eq, Debug)]
 pub enum LineRefusal {
@@ -11,21 +15,23 @@ pub enum LineRefusal {
 }
 
 impl LineRefusal {
-    pub(crate) fn number(&self) -> u8
-        ensures number { result ≡ (line_row self.now).number }
-    {
-        match self {
-            LineRefusal::Length => 11,
-            LineRefusal::Digit { .. } => 12,
-        }
-    }
-
-    pub(crate) fn place(&self) -> u32
-        ensures place { result ≡ (line_row self.now).place }
+    pub(crate) fn entry(&self) -> Entry
+        ensures { row 1 result.number result.place ≡ line_row self.now }
     {
         match *self {
-            LineRefusal::Length => 0,
-            LineRefusal::Digit { column } => u32::from(column),
+            LineRefusal::Length => Entry::new(11, 0),
+            LineRefusal::Digit { column } => Entry::new(12, u32::from(column)),
         }
     }
 }
+
+impl fmt::Display for LineRefusal {
+    fn fmt<W: fmt::Write>(&self, f: &mut fmt::Formatter<W>) -> fmt::Result {
+        match *self {
+            LineRefusal::Length => f.write_str("a line has 4 to 64 bytes, an even number"),
+            LineRefusal::Digit { column } => write!(f, "no digit in column {column}"),
+        }
+    }
+}
+
+impl Error for LineRefusal {}

@@ -1,6 +1,10 @@
 // Layer 4: why a sheet does not price the book.
 ghost use Rattle.std.specs.Prelude.{◌≡◌};
-ghost use Rattle.refusals.specs.Rows.{tariff_row};
+ghost use Rattle.refusals.specs.Rows.{row, tariff_row};
+
+use super::Entry;
+use std::error::Error;
+use std::fmt;
 
 #[derive(Clone, Copy, PartialEq, Eq, Debug)]
 pub enum TariffRefusal {
@@ -17,27 +21,32 @@ pub enum TariffRefusal {
 }
 
 impl TariffRefusal {
-    pub(crate) fn number(&self) -> u8
-        ensures number { result ≡ (tariff_row self.now).number }
-    {
-        match self {
-            TariffRefusal::Sheet { .. } => 32,
-            TariffRefusal::NotOffered { .. } => 33,
-            TariffRefusal::Incomplete { .. } => 34,
-            TariffRefusal::OutOfRange { .. } => 41,
-            TariffRefusal::Percentage { .. } => 42,
-        }
-    }
-
-    pub(crate) fn place(&self) -> u32
-        ensures place { result ≡ (tariff_row self.now).place }
+    pub(crate) fn entry(&self) -> Entry
+        ensures { row 4 result.number result.place ≡ tariff_row self.now }
     {
         match *self {
-            TariffRefusal::Sheet { area } => u32::from(area),
-            TariffRefusal::NotOffered { choice } => u32::from(choice),
-            TariffRefusal::Incomplete { hour } => u32::from(hour),
-            TariffRefusal::OutOfRange { row } => u32::from(row),
-            TariffRefusal::Percentage { row } => u32::from(row),
+            TariffRefusal::Sheet { area } => Entry::new(32, u32::from(area)),
+            TariffRefusal::NotOffered { choice } => Entry::new(33, u32::from(choice)),
+            TariffRefusal::Incomplete { hour } => Entry::new(34, u32::from(hour)),
+            TariffRefusal::OutOfRange { row } => Entry::new(41, u32::from(row)),
+            TariffRefusal::Percentage { row } => Entry::new(42, u32::from(row)),
         }
     }
 }
+
+impl fmt::Display for TariffRefusal {
+    fn fmt<W: fmt::Write>(&self, f: &mut fmt::Formatter<W>) -> fmt::Result {
+        match *self {
+            TariffRefusal::Sheet { area } => write!(f, "a sheet of another tariff or area, {area}"),
+            TariffRefusal::NotOffered { choice } => write!(f, "choice {choice} is not offered"),
+            TariffRefusal::Incomplete { hour } => write!(f, "hour {hour} has no value"),
+            TariffRefusal::OutOfRange { row } => write!(f, "an amount out of range in row {row}"),
+            TariffRefusal::Percentage { row } => write!(
+                f,
+                "a percentage out of range in row {row}"
+            ),
+        }
+    }
+}
+
+impl Error for TariffRefusal {}
