@@ -1,9 +1,9 @@
 // One row of the print-out: a line's number, its bytes and its text, and what it asks or why it is refused.
 use refusals::Refusal;
 use service_line::Request;
-use std::io;
 use std::io::Write;
-use wording::{Area, Connection, Invoice, Reason};
+use std::{io, iter};
+use wording::{Area, Connection, Invoice, Layer, printable};
 
 // The text column: the longest request has 18 characters.
 const TEXT: usize = 18;
@@ -37,22 +37,10 @@ pub fn write_line<W: Write>(
     }
 }
 
-// What is no printable character of ASCII is shown as a dot.
-fn shown(byte: u8) -> char {
-    match byte {
-        b' '..=b'~' => char::from(byte),
-        _ => '.',
-    }
-}
-
 // The text in a column of its own, with two dots behind it if it is cut.
 fn write_text<W: Write>(front: &[u8], out: &mut W) -> io::Result<()> {
-    for i in 0..TEXT {
-        let c = match front.get(i) {
-            Some(byte) => shown(*byte),
-            None => ' ',
-        };
-        write!(out, "{c}")?;
+    for byte in front.iter().copied().chain(iter::repeat(b' ')).take(TEXT) {
+        write!(out, "{}", printable(byte))?;
     }
     out.write_all(if front.len() > TEXT { b"..  " } else { b"    " })
 }
@@ -111,24 +99,19 @@ fn write_request<W: Write>(request: Request, out: &mut W) -> io::Result<()> {
 // The check is the line's last byte.
 fn write_check<W: Write>(front: &[u8], out: &mut W) -> io::Result<()> {
     match front {
-        [.., high, low] => write!(out, "{}{}     ", shown(*high), shown(*low)),
+        [.., high, low] => write!(out, "{}{}     ", printable(*high), printable(*low)),
         _ => write!(out, "       "),
     }
 }
 
 fn write_refusal<W: Write>(refusal: Refusal, out: &mut W) -> io::Result<()> {
-    let layer = match refusal {
-        Refusal::Line(_) => "line",
-        Refusal::Frame(_) => "frame",
-        Refusal::Book(_) => "book",
-        Refusal::Tariff(_) => "tariff",
-    };
-    write!(out, "-      refused  layer {} {layer:<6}", refusal.layer())?;
     write!(
         out,
-        "   number {}   place {:>3}",
+        "-      refused  layer {} {:<6}   number {}   place {:>3}   ",
+        refusal.layer(),
+        Layer(refusal),
         refusal.number(),
         refusal.place()
     )?;
-    writeln!(out, "   {}", Reason(refusal))
+    writeln!(out, "{refusal}")
 }
