@@ -1,49 +1,44 @@
 // The lines of one input, one after the other.
 use super::row;
 use super::tally::Tally;
+use line_input::Lines;
 use service_line::Received;
 use std::io;
 use std::io::Write;
 
 #[derive(Drop)]
-pub struct Session {
+pub struct Session<'a, W> {
+    out: &'a mut W,
     line: Received,
     // How many bytes of the line have come in.
     bytes: u64,
     tally: Tally,
 }
 
-impl Session {
-    pub fn new() -> Session {
+impl<'a, W: Write> Session<'a, W> {
+    pub fn new(out: &'a mut W) -> Session<'a, W> {
         Session {
+            out,
             line: Received::new(),
             bytes: 0,
-            tally: Tally::new(),
+            tally: Tally::default(),
         }
     }
 
-    // Takes in the next bytes, and prints the lines that they end.
-    pub fn take<W: Write>(&mut self, bytes: &[u8], out: &mut W) -> io::Result<()> {
-        for byte in bytes {
-            if *byte == b'\n' {
-                self.end_line(out)?;
-            } else {
-                self.line.push(*byte);
-                self.bytes = self.bytes.saturating_add(1);
-            }
-        }
+    pub fn finish(self) -> io::Result<()> {
+        let Session { out, tally, .. } = self;
+        tally.write(out)
+    }
+}
+
+impl<W: Write> Lines for Session<'_, W> {
+    fn push(&mut self, byte: u8) -> io::Result<()> {
+        self.line.push(byte);
+        self.bytes = self.bytes.saturating_add(1);
         Ok(())
     }
 
-    // The last piece is a line too, if it has no newline behind it.
-    pub fn finish<W: Write>(mut self, out: &mut W) -> io::Result<()> {
-        if self.bytes > 0 {
-            self.end_line(out)?;
-        }
-        self.tally.write(out)
-    }
-
-    fn end_line<W: Write>(&mut self, out: &mut W) -> io::Result<()> {
+    fn end_line(&mut self) -> io::Result<()> {
         let read = self.line.read();
         self.tally.count(&read);
         row::write_line(
@@ -51,7 +46,7 @@ impl Session {
             self.bytes,
             self.line.front(),
             &read,
-            out,
+            self.out,
         )?;
         self.line = Received::new();
         self.bytes = 0;

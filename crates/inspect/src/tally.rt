@@ -4,7 +4,8 @@ use service_line::Request;
 use std::io;
 use std::io::Write;
 
-#[derive(Clone, Copy)]
+// A field for each row: a map would need each row's key, place and name in tables of their own.
+#[derive(Clone, Copy, Default)]
 pub struct Tally {
     post: u64,
     amend: u64,
@@ -22,24 +23,6 @@ pub struct Tally {
 }
 
 impl Tally {
-    pub fn new() -> Tally {
-        Tally {
-            post: 0,
-            amend: 0,
-            choose: 0,
-            open: 0,
-            advise: 0,
-            invoice: 0,
-            line_length: 0,
-            line_digit: 0,
-            frame_kind: 0,
-            frame_length: 0,
-            frame_check: 0,
-            above: 0,
-            all: 0,
-        }
-    }
-
     pub fn lines(&self) -> u64 {
         self.all
     }
