@@ -94,6 +94,7 @@ impl fmt::Display for Refusal {
 
 impl Error for Refusal {}
 
+// The four stand written out, since clauses say what they give, and what a derive writes has no contract.
 impl From<LineRefusal> for Refusal {
     ghost from_gives = { λ e r. r ≡ Line e };
 
