@@ -3,7 +3,7 @@ use refusals::Refusal;
 use service_line::Request;
 use std::io::Write;
 use std::{io, iter};
-use wording::{Area, Connection, Invoice, Layer, printable};
+use wording::{Layer, Named, printable};
 
 // The text column: the longest request has 18 characters.
 const TEXT: usize = 18;
@@ -87,12 +87,12 @@ fn write_request<W: Write>(request: Request, out: &mut W) -> io::Result<()> {
             writeln!(
                 out,
                 "open     year {year:>5}   area {}   connection {}",
-                Area(area),
-                Connection(connection)
+                Named::Area(area),
+                Named::Connection(connection)
             )
         }
         Request::Advise => writeln!(out, "advise   no fields"),
-        Request::Invoice { number } => writeln!(out, "invoice  number {}", Invoice(number)),
+        Request::Invoice { number } => writeln!(out, "invoice  number {}", Named::Invoice(number)),
     }
 }
 
@@ -104,14 +104,14 @@ fn write_check<W: Write>(front: &[u8], out: &mut W) -> io::Result<()> {
     }
 }
 
+// Only the columns stand here, and no other program has the same.
 fn write_refusal<W: Write>(refusal: Refusal, out: &mut W) -> io::Result<()> {
-    write!(
+    writeln!(
         out,
-        "-      refused  layer {} {:<6}   number {}   place {:>3}   ",
+        "-      refused  layer {} {:<6}   number {}   place {:>3}   {refusal}",
         refusal.layer(),
         Layer(refusal),
         refusal.number(),
         refusal.place()
-    )?;
-    writeln!(out, "{refusal}")
+    )
 }

@@ -3,7 +3,7 @@ use super::memory;
 use refusals::{BookRefusal, Refusal};
 use std::io;
 use std::io::Write;
-use wording::{Invoice, Reason};
+use wording::{Layer, Named};
 
 pub fn write_answer<W: Write>(answer: Result<(), BookRefusal>, out: &mut W) -> io::Result<()> {
     match answer {
@@ -20,19 +20,13 @@ pub fn write_count<W: Write>(answer: Result<u16, BookRefusal>, out: &mut W) -> i
 }
 
 fn write_refusal<W: Write>(refusal: Refusal, out: &mut W) -> io::Result<()> {
-    let layer = match refusal {
-        Refusal::Line(_) => "line",
-        Refusal::Frame(_) => "frame",
-        Refusal::Book(_) => "book",
-        Refusal::Tariff(_) => "tariff",
-    };
     writeln!(
         out,
-        "  refused   layer {} {layer}   number {}   place {:>5}   {}",
+        "  refused   layer {} {}   number {}   place {:>5}   {refusal}",
         refusal.layer(),
+        Layer(refusal),
         refusal.number(),
-        refusal.place(),
-        Reason(refusal)
+        refusal.place()
     )
 }
 
@@ -42,7 +36,11 @@ pub fn write_missing<W: Write>(
     out: &mut W,
 ) -> io::Result<()> {
     match missing {
-        Ok(hours) => writeln!(out, "  missing {hours:>5}          in {}", Invoice(number)),
+        Ok(hours) => writeln!(
+            out,
+            "  missing {hours:>5}          in {}",
+            Named::Invoice(number)
+        ),
         Err(refusal) => writeln!(
             out,
             "  missing     -          refused by number {}",

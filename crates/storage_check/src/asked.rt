@@ -5,7 +5,7 @@ use super::shown::Shown;
 use hours::HourRecord;
 use std::io;
 use std::io::Write;
-use wording::{Area, Connection, Invoice};
+use wording::Named;
 
 pub fn write_call<W: Write>(line: u64, call: Call, out: &mut W) -> io::Result<()> {
     write!(out, "\nline {line:<5}  ")?;
@@ -17,8 +17,8 @@ pub fn write_call<W: Write>(line: u64, call: Call, out: &mut W) -> io::Result<()
         } => writeln!(
             out,
             "open     year {year}   area {}   connection {}",
-            Area(area),
-            Connection(connection)
+            Named::Area(area),
+            Named::Connection(connection)
         ),
         Call::Post { hour, value } => write_value("post ", hour, value, out),
         Call::Amend { hour, value } => write_value("amend", hour, value, out),
@@ -30,7 +30,7 @@ pub fn write_call<W: Write>(line: u64, call: Call, out: &mut W) -> io::Result<()
                 s.extra_withdrawal, s.extra_input
             )
         }
-        Call::Missing { number } => writeln!(out, "missing  number {}", Invoice(number)),
+        Call::Missing { number } => writeln!(out, "missing  number {}", Named::Invoice(number)),
         Call::Lend { records, words } => writeln!(
             out,
             "lend     records {records}   words {words}"

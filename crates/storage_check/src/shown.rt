@@ -1,5 +1,6 @@
 // Text of the script as it is printed again.
 use std::fmt;
+use wording::printable;
 
 // The most bytes that are printed of a piece of text.
 const MOST: usize = 24;
@@ -7,13 +8,6 @@ const MOST: usize = 24;
 // A piece of text in quotes; what is no printable character of ASCII is a dot, and two dots stand for what is cut.
 #[derive(Clone, Copy)]
 pub struct Shown<'a>(pub &'a str);
-
-fn printable(byte: u8) -> char {
-    match byte {
-        b' '..=b'~' => char::from(byte),
-        _ => '.',
-    }
-}
 
 impl fmt::Display for Shown<'_> {
     fn fmt<W: fmt::Write>(&self, f: &mut fmt::Formatter<W>) -> fmt::Result {

@@ -1,12 +1,10 @@
-// Words for what the unit's programs print: refusals, areas, connections and invoices.
+// Words for what the unit's programs print: layers, areas, connections and invoices, and bytes as text.
 #![tactic(auto)]
 
 mod layer;
 mod names;
-mod reason;
 mod text;
 
 pub use layer::Layer;
-pub use names::{Area, Connection, Invoice};
-pub use reason::Reason;
+pub use names::Named;
 pub use text::printable;

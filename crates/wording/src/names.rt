@@ -1,17 +1,13 @@
 // Numbers of the service line with the names that people give them.
 use std::fmt;
 
-// An area, as `3 Southern`.
+// A number with its name, as `3 Southern`. A line may hold any number, so what names nothing is `unknown`.
 #[derive(Clone, Copy)]
-pub struct Area(pub u8);
-
-// A connection, as `2 L2`.
-#[derive(Clone, Copy)]
-pub struct Connection(pub u8);
-
-// An invoice, as `3 March`.
-#[derive(Clone, Copy)]
-pub struct Invoice(pub u8);
+pub enum Named {
+    Area(u8),
+    Connection(u8),
+    Invoice(u8),
+}
 
 fn area_name(area: u8) -> &'static str {
     match area {
@@ -55,20 +51,13 @@ fn invoice_name(number: u8) -> &'static str {
     }
 }
 
-impl fmt::Display for Area {
+impl fmt::Display for Named {
     fn fmt<W: fmt::Write>(&self, f: &mut fmt::Formatter<W>) -> fmt::Result {
-        write!(f, "{} {}", self.0, area_name(self.0))
-    }
-}
-
-impl fmt::Display for Connection {
-    fn fmt<W: fmt::Write>(&self, f: &mut fmt::Formatter<W>) -> fmt::Result {
-        write!(f, "{} {}", self.0, connection_name(self.0))
-    }
-}
-
-impl fmt::Display for Invoice {
-    fn fmt<W: fmt::Write>(&self, f: &mut fmt::Formatter<W>) -> fmt::Result {
-        write!(f, "{} {}", self.0, invoice_name(self.0))
+        let (number, name) = match *self {
+            Named::Area(area) => (area, area_name(area)),
+            Named::Connection(connection) => (connection, connection_name(connection)),
+            Named::Invoice(number) => (number, invoice_name(number)),
+        };
+        write!(f, "{number} {name}")
     }
 }
