@@ -1,6 +1,8 @@
 -- Laws of days: months follow one another through the year, and the last Sundays of March and October lie in them.
-use Rattle.std.proofs.Common.{◌≡◌, ℕ, suc, ◌+◌, ◌-◌, ◌*◌, ◌/◌, ◌<◌, ◌≤◌, refl, add-one, arith}
+use Rattle.std.proofs.Common.{◌≡◌, ℕ, zero, suc, map, sum, sym, subst, ap, ◌∙◌, ◌+◌, ◌-◌, ◌*◌, ◌/◌, ◌<◌, ◌≤◌, refl, add-one, arith}
 use Rattle.std.proofs.lemmas.Bool.Decides.{nat_tests}
+use Rattle.std.proofs.lemmas.List.FromFn.{sum_by-map-range_with_len_more}
+use Rattle.std.specs.List.{range_with_len}
 use Rattle.calendar.specs.Days.{leap, leap_day, year_days, month_days, days_to, months_over, month_of_day, days_before, first_weekday_of, weekday, last_sunday}
 use Rattle.calendar.proofs.Rising.{rising_mono, passed_at}
 
@@ -26,6 +28,15 @@ days_to_none y = refl
 pub days_to_more : (y m : ℕ) → days_to y (m + 1) ≡ days_to y m + month_days y (m + 1)
 unfolding days_to
 days_to_more y m = rw add-one
+
+-- the days are those of the months one by one
+pub days_to_sum : (y m : ℕ) → sum (map (λ k. month_days y (k + 1)) (range_with_len 0 m)) ≡ days_to y m
+days_to_sum y zero = sym (days_to_none y)
+days_to_sum y (suc m) =
+    let f : ℕ → ℕ = λ k. month_days y (k + 1) in
+    let more : sum (map f (range_with_len 0 (m + 1))) ≡ sum (map f (range_with_len 0 m)) + f m =
+    sum_by-map-range_with_len_more (λ n. n) f 0 m m (omega arith) in
+    subst (λ (n : ℕ). sum (map f (range_with_len 0 n)) ≡ days_to y n) (add-one m) (more ∙ ap (λ n. n + f m) (days_to_sum y m) ∙ sym (days_to_more y m))
 
 pub days_to_rises : (y m : ℕ) → days_to y m < days_to y (suc m)
 unfolding days_to

@@ -1,7 +1,9 @@
 -- Laws of months: consecutive parts that cover the year's hours exactly.
-use Rattle.std.proofs.Common.{◌≡◌, ℕ, zero, suc, ◌-◌, ◌<◌, ◌≤◌, ◌||◌, ltb, leb, ap, ◌∙◌, inl, inr, arith}
-use Rattle.std.proofs.lemmas.Bool.{cases_lt}
+use Rattle.std.proofs.Common.{◌≡◌, ℕ, zero, suc, ◌-◌, ◌<◌, ◌≤◌, true, false, ◌||◌, ltb, leb, List, length, get_or, sym, ap, ◌∙◌, inl, inr, arith}
+use Rattle.std.proofs.lemmas.Bool.{cases_lt, leb-true, leb-false}
 use Rattle.std.proofs.lemmas.Bool.Decides.{nat_tests}
+use Rattle.std.specs.List.Sorted.{IsNonDecreasingBy, IsPartitionedBy, IsPartitionPoint}
+use Rattle.std.proofs.lemmas.List.Sorted.{IsPartitionedBy-leb, IsNonDecreasingBy-from_default}
 use Rattle.calendar.specs.Days.{days_to, month_of_day}
 use Rattle.calendar.specs.Hours.{year_hours, day_of, month_of, midnight, month_first, month_end}
 use Rattle.calendar.specs.PeakLoad.{winter}
@@ -47,6 +49,27 @@ month_of_is y m h lt from to =
       | inl l ↦ l
       | inr r ↦ absurd (omega (arith, day_of_from y h, midnight_mono y (days_to y (suc m)) (day_of y h) r))
     ])
+
+-- where the ends of the months up to 12, in a row, pass an hour is its month
+pub record FoundMonth (y h i : ℕ) : Type 0 where
+  pub low : 1 ≤ i
+  pub high : i ≤ 12
+  pub is : i ≡ month_of y h
+
+pub month_found : (y h i : ℕ) (ends : List ℕ) → length ends ≡ 13 → ((m : ℕ) → m ≤ 12 → get_or ends m 0 ≡ month_end y m) → h < year_hours y → i ≤ 13 → (IsPartitionedBy (λ e. leb e h) ends → IsPartitionPoint (λ e. leb e h ≡ true) (λ e. leb e h ≡ false) ends i) → FoundMonth y h i
+month_found y h i ends long are lt most answer =
+    let rises : IsNonDecreasingBy (λ e. e) ends =
+    IsNonDecreasingBy-from_default (λ e. e) ends 0 (λ m n le l. omega (arith, are m (omega arith), are n (omega arith), month_end_mono y m n le)) in
+    let p = answer (IsPartitionedBy-leb (λ e. e) ends h rises) in
+    let before : (m : ℕ) → m < i → m ≤ 12 → month_end y m ≤ h = λ m l le. rw (are m le) at (leb-true (get_or ends m 0) h (p.0 m 0 (omega arith) l)) in
+    let after : (m : ℕ) → i ≤ m → m ≤ 12 → h < month_end y m = λ m l le. rw (are m le) at (leb-false (get_or ends m 0) h (p.1 m 0 l (omega arith))) in
+    let low : 1 ≤ i =
+    elim (cases_lt 0 i) [ inl l ↦ l | inr r ↦ absurd (omega (arith, after 0 r (omega arith), month_end_none y)) ] in
+    let high : i ≤ 12 =
+    elim (cases_lt 12 i) [ inl l ↦ absurd (omega (arith, before 12 l (omega arith), month_end_year y)) | inr r ↦ r ] in
+    let e : suc (i - 1) ≡ i = omega arith in
+    let to : h < month_end y (suc (i - 1)) = rw e (after i (omega arith) high) in
+    record { low = low; high = high; is = sym (month_of_is y (i - 1) h (omega arith) (before (i - 1) (omega arith) (omega arith)) to ∙ e) }
 
 -- the month, counted from 0, that holds an hour of the year
 holding : (y h : ℕ) → h < year_hours y → (m : ℕ) × (m < 12) × (month_end y m ≤ h) × (h < month_end y (suc m))

@@ -1,6 +1,7 @@
 -- Laws of peak-load hours: how their number grows hour by hour, and part by part.
-use Rattle.std.proofs.Common.{◌≡◌, ℕ, zero, suc, ◌+◌, ◌≤◌, cond, refl, add-zero, add-suc, add-one, arith}
+use Rattle.std.proofs.Common.{◌≡◌, ℕ, zero, suc, ◌+◌, ◌≤◌, Bool, true, false, List, ◌∷◌, cond, length, filter, refl, add-zero, add-suc, add-one, one-add, arith}
 use Rattle.std.proofs.lemmas.Bool.Decides.{nat_tests}
+use Rattle.std.specs.List.{range_with_len}
 use Rattle.calendar.specs.PeakLoad.{peak_load, peak_load_hours}
 
 pub peak_load_hours_none : (y h : ℕ) → peak_load_hours y h 0 ≡ 0
@@ -24,3 +25,17 @@ peak_load_hours_parts y h m (suc n) =
     let e = peak_load_hours_parts y h m n in
     let a : (h + m) + n ≡ h + (m + n) = omega arith in
     rw (add-suc, a) (omega arith)
+
+-- they are the hours of the part that pass the test
+pub peak_load_hours_filter : (y h n : ℕ) → length (filter (peak_load y) (range_with_len h n)) ≡ peak_load_hours y h n
+unfolding peak_load_hours
+peak_load_hours_filter y h zero = refl
+peak_load_hours_filter y h (suc n) =
+    let rest = peak_load_hours_filter y (h + 1) n in
+    let parts : peak_load_hours y h (1 + n) ≡ peak_load_hours y h 1 + peak_load_hours y (h + 1) n = peak_load_hours_parts y h 1 n in
+    let here : h + 0 ≡ h = omega arith in
+    one_more (peak_load y h) h _ _ _ rest (rw (one-add, here) at parts)
+  where
+    one_more : (b : Bool) (x : ℕ) (xs : List ℕ) (k all : ℕ) → length xs ≡ k → all ≡ 0 + cond b 1 0 + k → length (cond b (x ∷ xs) xs) ≡ all
+    one_more true x xs k all e f = omega arith
+    one_more false x xs k all e f = omega arith

@@ -7,3 +7,4 @@ pub mod Weeks
 pub mod PeakLoad
 pub mod Laws
 pub mod Dates
+pub mod Names

@@ -8,7 +8,7 @@ ghost use Rattle.calendar.specs.Weeks.{weeks};
 use crate::clock::Clock;
 use crate::year::Year;
 
-#[derive(Clone, Copy)]
+#[derive(Clone, Copy, PartialEq, Eq, Debug)]
 pub struct Calendar {
     pub year: Year,
     pub(crate) clock: Clock,

@@ -2,10 +2,10 @@
 ghost use Rattle.std.specs.Prelude.{◌≡◌, ◌<◌, ◌≤◌};
 ghost use Rattle.calendar.specs.Hours.{summer_start_of, summer_end_of, clock, midnight};
 
-use crate::days::last_sunday;
+use crate::month::Month;
 use crate::year::Year;
 
-#[derive(Clone, Copy)]
+#[derive(Clone, Copy, PartialEq, Eq, Debug)]
 pub(crate) struct Clock {
     pub(crate) year: Year,
     pub(crate) summer_start: u16,
@@ -22,8 +22,8 @@ impl Clock {
     {
         Clock {
             year,
-            summer_start: 24 * last_sunday(year, 3) + 2,
-            summer_end: 24 * last_sunday(year, 10) + 2,
+            summer_start: 24 * year.last_sunday(Month { number: 3 }) + 2,
+            summer_end: 24 * year.last_sunday(Month { number: 10 }) + 2,
         }
     }
 

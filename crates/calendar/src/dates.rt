@@ -8,7 +8,8 @@ ghost use Rattle.calendar.specs.Years.{provided};
 
 use crate::calendar::Calendar;
 use crate::date::{Date, Weekday};
-use crate::days::days_to;
+use crate::day::DayOfYear;
+use crate::month::Month;
 
 impl Calendar {
     // Easter Sunday as a day of the year.
@@ -32,11 +33,7 @@ impl Calendar {
         ensures date { let y = self.now.year.number in option_map date_numbers result ≡ provided (nat_lt day (year_days y)) (date_of y day) }
         ensures there_and_back { let y = self.now.year.number in (day < year_days y → date y (month_of_day y day) (day_of_month y day) ≡ day) }
     {
-        if day < self.days() {
-            Some(self.date_at(day))
-        } else {
-            None
-        }
+        DayOfYear::new(self, day).map(|day| day.date())
     }
 
     // The days of the year.
@@ -46,33 +43,41 @@ impl Calendar {
     {
         self.hours() / 24
     }
+}
 
-    fn date_at(&self, day: u16) -> Date
-        requires { day < year_days self.now.year.number }
-        ensures date { date_numbers result ≡ date_of self.now.year.number day }
-        ensures there_and_back { let y = self.now.year.number in date y (month_of_day y day) (day_of_month y day) ≡ day }
+impl DayOfYear<'_> {
+    fn date(self) -> Date
+        ensures date { date_numbers result ≡ date_of self.entry.calendar.now.year.number self.entry.number }
+        ensures there_and_back { let y = self.entry.calendar.now.year.number in date y (month_of_day y self.entry.number) (day_of_month y self.entry.number) ≡ self.entry.number }
     {
-        let month = self.month_at(self.midnight(day));
-        let first = days_to(self.year, month.number as u16 - 1);
+        let month = self.month();
+        let first = self.calendar.year.days_to(month.number - 1);
         Date {
-            weekday: weekday_of((self.first_weekday + day) % 7),
-            day: (day - first + 1) as u8,
+            weekday: self.weekday(),
+            day: (self.number - first + 1) as u8,
             month,
         }
     }
-}
 
-fn weekday_of(number: u16) -> Weekday
-    requires { number < 7 }
-    ensures named { weekday_number result ≡ number }
-{
-    match number {
-        0 => Weekday::Monday,
-        1 => Weekday::Tuesday,
-        2 => Weekday::Wednesday,
-        3 => Weekday::Thursday,
-        4 => Weekday::Friday,
-        5 => Weekday::Saturday,
-        _ => Weekday::Sunday,
+    fn month(self) -> Month
+        ensures month { result.number ≡ month_of_day self.entry.calendar.now.year.number self.entry.number }
+    {
+        self.first_hour().month()
+    }
+
+    fn weekday(self) -> Weekday
+        ensures weekday { weekday_number result ≡ weekday self.entry.calendar.now.year.number self.entry.number }
+    {
+        WEEKDAYS[((self.calendar.first_weekday + self.number) % 7) as usize]
     }
 }
+
+const WEEKDAYS: [Weekday; 7] = [
+    Weekday::Monday,
+    Weekday::Tuesday,
+    Weekday::Wednesday,
+    Weekday::Thursday,
+    Weekday::Friday,
+    Weekday::Saturday,
+    Weekday::Sunday,
+];

@@ -3,6 +3,7 @@ ghost use Rattle.std.specs.Prelude.{◌≡◌, ◌<◌, ◌≤◌};
 ghost use Rattle.calendar.specs.Days.{leap, month_days, days_to, first_weekday_of, last_sunday};
 ghost use Rattle.calendar.specs.Hours.{year_hours};
 
+use crate::month::Month;
 use crate::year::Year;
 
 fn is_leap(year: u16) -> bool
@@ -19,45 +20,42 @@ pub fn year_hours(year: u16) -> u16
     if is_leap(year) { 8784 } else { 8760 }
 }
 
-pub(crate) fn month_days(year: Year, month: u16) -> u16
-    ensures days { result ≡ month_days year.number month }
-{
-    match month {
-        2 if is_leap(year.number) => 29,
-        2 => 28,
-        4 | 6 | 9 | 11 => 30,
-        _ => 31,
+impl Year {
+    fn month_days(self, month: u8) -> u16
+        ensures days { result ≡ month_days self.number month }
+    {
+        match month {
+            2 if is_leap(self.number) => 29,
+            2 => 28,
+            4 | 6 | 9 | 11 => 30,
+            _ => 31,
+        }
     }
-}
 
-// The days of the year up to the end of a month; none up to month 0.
-pub(crate) fn days_to(year: Year, month: u16) -> u16
-    requires { month ≤ 12 }
-    ensures days { result ≡ days_to year.number month }
-    ensures at_most { result ≤ 366 }
-{
-    let mut days = 0;
-    for past in 0..month {
-        days += month_days(year, past + 1);
+    // The days of the year up to the end of a month; none up to month 0.
+    pub(crate) fn days_to(self, month: u8) -> u16
+        requires { month ≤ 12 }
+        ensures days { result ≡ days_to self.number month }
+        ensures at_most { result ≤ 366 }
+    {
+        (0..month).map(|past| self.month_days(past + 1)).sum()
     }
-    days
-}
 
-// The weekday of 1 January, 0 for Monday.
-pub(crate) fn first_weekday(year: Year) -> u16
-    ensures weekday { result ≡ first_weekday_of year.number }
-    ensures below { result < 7 }
-{
-    let past = year.number as u32 - 1;
-    ((365 * past + past / 4 - past / 100 + past / 400) % 7) as u16
-}
+    // The weekday of 1 January, 0 for Monday.
+    pub(crate) fn first_weekday(self) -> u16
+        ensures weekday { result ≡ first_weekday_of self.number }
+        ensures below { result < 7 }
+    {
+        let past = self.number as u32 - 1;
+        ((365 * past + past / 4 - past / 100 + past / 400) % 7) as u16
+    }
 
-// The last Sunday of a month, as a day of the year.
-pub(crate) fn last_sunday(year: Year, month: u16) -> u16
-    requires { (1 ≤ month) × (month ≤ 12) }
-    ensures sunday { result ≡ last_sunday year.number month }
-    ensures at_most { result ≤ 366 }
-{
-    let last = days_to(year, month) - 1;
-    last - (first_weekday(year) + last + 1) % 7
+    // The last Sunday of a month, as a day of the year.
+    pub(crate) fn last_sunday(self, month: Month) -> u16
+        ensures sunday { result ≡ last_sunday self.number month.number }
+        ensures at_most { result ≤ 366 }
+    {
+        let last = self.days_to(month.number) - 1;
+        last - (self.first_weekday() + last + 1) % 7
+    }
 }

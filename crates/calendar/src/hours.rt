@@ -1,6 +1,6 @@
-// The hours of a year, and what the clock shows at them.
-ghost use Rattle.std.specs.Prelude.{◌≡◌, ◌<◌, ◌≤◌};
-ghost use Rattle.calendar.specs.Hours.{year_hours, summer_start_of, summer_end_of, day_of, time_of, midnight};
+// The hours of a year: how many, which are summer time, and where its days begin.
+ghost use Rattle.std.specs.Prelude.{◌≡◌, ◌≤◌};
+ghost use Rattle.calendar.specs.Hours.{year_hours, summer_start_of, summer_end_of, midnight};
 
 use crate::calendar::Calendar;
 use crate::span::Span;
@@ -22,23 +22,6 @@ impl Calendar {
             first: self.clock.summer_start,
             end: self.clock.summer_end,
         }
-    }
-
-    // The day of an hour by the clock.
-    pub(crate) fn day_of(&self, hour: u16) -> u16
-        requires { hour < year_hours self.now.year.number }
-        ensures day { result ≡ day_of self.now.year.number hour }
-        ensures below { result < 366 }
-    {
-        self.clock.shows(hour) / 24
-    }
-
-    // The hour of the day by the clock.
-    pub(crate) fn time_of(&self, hour: u16) -> u16
-        requires { hour < 8784 }
-        ensures time { result ≡ time_of self.now.year.number hour }
-    {
-        self.clock.shows(hour) % 24
     }
 
     // The hour at which a day begins by the clock.

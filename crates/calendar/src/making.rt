@@ -8,7 +8,7 @@ ghost use Rattle.calendar.specs.Weeks.{weeks};
 
 use crate::calendar::Calendar;
 use crate::clock::Clock;
-use crate::days::{days_to, first_weekday, year_hours};
+use crate::days::year_hours;
 use crate::year::Year;
 
 impl Calendar {
@@ -19,59 +19,62 @@ impl Calendar {
         ensures weeks_cover_the_year { WeeksCover year.number }
     {
         let clock = Clock::new(year);
-        let easter_sunday = easter_sunday(year);
         Calendar {
             year,
             clock,
             hours: year_hours(year.number),
-            month_ends: month_ends(&clock),
-            first_weekday: first_weekday(year),
-            week_count: week_count(year),
-            easter_sunday,
-            days_off: days_off(year, easter_sunday),
+            month_ends: clock.month_ends(),
+            first_weekday: year.first_weekday(),
+            week_count: year.week_count(),
+            easter_sunday: year.easter_sunday(),
+            days_off: year.days_off(),
         }
     }
 }
 
-fn month_ends(clock: &Clock) -> [u16; 13]
-    ensures ends { (m : ℕ) → m ≤ 12 → slice_index result m ≡ month_end clock.now.year.number m }
-{
-    let mut ends = [0; 13];
-    for month in 1..13 {
-        ends[month] = clock.midnight(days_to(clock.year, month as u16));
+impl Clock {
+    fn month_ends(&self) -> [u16; 13]
+        ensures ends { (m : ℕ) → m ≤ 12 → slice_index result m ≡ month_end self.now.year.number m }
+    {
+        let mut ends = [0; 13];
+        for month in 1..13 {
+            ends[month] = self.midnight(self.year.days_to(month as u8));
+        }
+        ends
     }
-    ends
 }
 
-fn week_count(year: Year) -> u8
-    ensures weeks { result ≡ weeks year.number }
-    ensures at_most { result ≤ 54 }
-{
-    ((first_weekday(year) + days_to(year, 12) + 6) / 7) as u8
-}
+impl Year {
+    fn week_count(self) -> u8
+        ensures weeks { result ≡ weeks self.number }
+        ensures at_most { result ≤ 54 }
+    {
+        ((self.first_weekday() + self.days_to(12) + 6) / 7) as u8
+    }
 
-// Easter Sunday as a day of the year; it is counted from 22 March.
-fn easter_sunday(year: Year) -> u16
-    ensures easter { result ≡ easter_sunday_of year.number }
-    ensures sunday { weekday year.number result ≡ 6 }
-{
-    days_to(year, 2) + 21 + year.easter()
-}
+    // Easter Sunday as a day of the year; it is counted from 22 March.
+    fn easter_sunday(self) -> u16
+        ensures easter { result ≡ easter_sunday_of self.number }
+        ensures sunday { weekday self.number result ≡ 6 }
+    {
+        self.days_to(2) + 21 + self.easter()
+    }
 
-fn days_off(year: Year, easter: u16) -> [u16; 9]
-    requires { easter ≡ easter_sunday_of year.number }
-    ensures days { result ≡ days_off_of year.number }
-{
-    let december = days_to(year, 11);
-    [
-        0,
-        5,
-        easter - 3,
-        easter - 2,
-        easter + 1,
-        december + 23,
-        december + 24,
-        december + 25,
-        december + 30,
-    ]
+    fn days_off(self) -> [u16; 9]
+        ensures days { result ≡ days_off_of self.number }
+    {
+        let easter = self.easter_sunday();
+        let december = self.days_to(11);
+        [
+            0,
+            5,
+            easter - 3,
+            easter - 2,
+            easter + 1,
+            december + 23,
+            december + 24,
+            december + 25,
+            december + 30,
+        ]
+    }
 }

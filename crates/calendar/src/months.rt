@@ -1,10 +1,11 @@
 // The months of a year.
-ghost use Rattle.std.specs.Prelude.{◌≡◌, ◌<◌, ◌≤◌, nat_lt};
+ghost use Rattle.std.specs.Prelude.{◌≡◌, ◌≤◌, nat_lt};
 ghost use Rattle.std.specs.Option.{option_map};
 ghost use Rattle.calendar.specs.Hours.{year_hours, month_of, month_first, month_end};
 ghost use Rattle.calendar.specs.Years.{provided};
 
 use crate::calendar::Calendar;
+use crate::hour::HourOfYear;
 use crate::month::Month;
 use crate::span::Span;
 
@@ -23,11 +24,7 @@ impl Calendar {
     pub fn month_of(&self, hour: u16) -> Option<Month>
         ensures month { let y = self.now.year.number in option_map (λ m. m.number) result ≡ provided (nat_lt hour (year_hours y)) (month_of y hour) }
     {
-        if hour < self.hours {
-            Some(self.month_at(hour))
-        } else {
-            None
-        }
+        HourOfYear::new(self, hour).map(|hour| hour.month())
     }
 
     // The first hour after a month; 0 for month 0.
@@ -38,17 +35,17 @@ impl Calendar {
     {
         self.month_ends[number as usize]
     }
+}
 
+impl HourOfYear<'_> {
     // The first month that ends after the hour.
-    pub(crate) fn month_at(&self, hour: u16) -> Month
-        requires { hour < year_hours self.now.year.number }
-        ensures month { result.number ≡ month_of self.now.year.number hour }
+    pub(crate) fn month(self) -> Month
+        ensures month { result.number ≡ month_of self.entry.calendar.now.year.number self.entry.number }
     {
-        for number in 1..12 {
-            if hour < self.month_end(number) {
-                return Month { number };
-            }
-        }
-        Month { number: 12 }
+        let over = self
+            .calendar
+            .month_ends
+            .partition_point(|end| *end <= self.number);
+        Month { number: over as u8 }
     }
 }

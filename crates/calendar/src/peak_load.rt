@@ -1,9 +1,11 @@
 // Peak-load hours.
-ghost use Rattle.std.specs.Prelude.{◌≡◌, ◌-◌, ◌<◌, ◌≤◌};
-ghost use Rattle.calendar.specs.Hours.{year_hours, month_of};
+ghost use Rattle.std.specs.Prelude.{◌≡◌, ◌-◌};
+ghost use Rattle.calendar.specs.Hours.{month_of};
 ghost use Rattle.calendar.specs.PeakLoad.{daytime, winter, days_off_of, among, counts, peak_load, peak_load_hours};
 
 use crate::calendar::Calendar;
+use crate::day::DayOfYear;
+use crate::hour::HourOfYear;
 use crate::span::Span;
 
 impl Calendar {
@@ -11,60 +13,51 @@ impl Calendar {
     pub fn is_peak_load(&self, hour: u16) -> bool
         ensures peak_load { result ≡ peak_load self.now.year.number hour }
     {
-        if hour >= self.hours() {
-            return false;
-        }
-        if is_daytime(self.time_of(hour)) && self.is_winter(hour) {
-            self.counts(self.day_of(hour))
-        } else {
-            false
-        }
+        HourOfYear::new(self, hour).is_some_and(|hour| hour.is_peak_load())
     }
 
     // How many hours of a span are peak-load hours.
     pub fn peak_load_hours(&self, span: Span) -> u16
         ensures count { result ≡ peak_load_hours self.now.year.number span.first (span.end - span.first) }
     {
-        self.count(span.first, span.end)
+        (span.first..span.end)
+            .filter(|hour| self.is_peak_load(*hour))
+            .count() as u16
     }
+}
 
-    fn count(&self, first: u16, end: u16) -> u16
-        requires { first ≤ end }
-        ensures count { result ≡ peak_load_hours self.now.year.number first (end - first) }
+impl HourOfYear<'_> {
+    fn is_peak_load(self) -> bool
+        ensures peak_load { result ≡ peak_load self.entry.calendar.now.year.number self.entry.number }
     {
-        let mut count = 0;
-        for hour in first..end {
-            if self.is_peak_load(hour) {
-                count += 1;
-            }
-        }
-        count
+        is_daytime(self.time()) && self.is_winter() && self.day().counts()
     }
 
-    fn is_winter(&self, hour: u16) -> bool
-        requires { hour < year_hours self.now.year.number }
-        ensures winter { result ≡ winter (month_of self.now.year.number hour) }
+    fn is_winter(self) -> bool
+        ensures winter { result ≡ winter (month_of self.entry.calendar.now.year.number self.entry.number) }
     {
-        hour < self.month_ends[3] || self.month_ends[10] <= hour
+        let ends = &self.calendar.month_ends;
+        self.number < ends[3] || ends[10] <= self.number
     }
+}
 
+impl DayOfYear<'_> {
     // Monday to Friday, and no day off.
-    fn counts(&self, day: u16) -> bool
-        requires { day < 366 }
-        ensures counts { result ≡ counts self.now.year.number day }
+    fn counts(self) -> bool
+        ensures counts { result ≡ counts self.entry.calendar.now.year.number self.entry.number }
     {
-        (self.first_weekday + day) % 7 < 5 && !self.is_day_off(day)
+        (self.calendar.first_weekday + self.number) % 7 < 5 && !self.is_day_off()
     }
 
-    fn is_day_off(&self, day: u16) -> bool
-        ensures off { result ≡ among day (days_off_of self.now.year.number) }
+    fn is_day_off(self) -> bool
+        ensures off { result ≡ among self.entry.number (days_off_of self.entry.calendar.now.year.number) }
     {
-        self.days_off.contains(&day)
+        self.calendar.days_off.contains(&self.number)
     }
 }
 
 fn is_daytime(time: u16) -> bool
     ensures daytime { result ≡ daytime time }
 {
-    6 <= time && time <= 21
+    (6..=21).contains(&time)
 }

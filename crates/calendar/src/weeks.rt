@@ -6,6 +6,7 @@ ghost use Rattle.calendar.specs.Weeks.{week_of, weeks, monday, week_first, week_
 ghost use Rattle.calendar.specs.Years.{provided};
 
 use crate::calendar::Calendar;
+use crate::hour::HourOfYear;
 use crate::span::Span;
 
 impl Calendar {
@@ -20,11 +21,7 @@ impl Calendar {
     pub fn week_of(&self, hour: u16) -> Option<u8>
         ensures week { let y = self.now.year.number in result ≡ provided (nat_lt hour (year_hours y)) (week_of y hour) }
     {
-        if hour < self.hours {
-            Some(self.week_at(hour))
-        } else {
-            None
-        }
+        HourOfYear::new(self, hour).map(|hour| hour.week())
     }
 
     // The hours of a week; none past the year's last week.
@@ -37,13 +34,6 @@ impl Calendar {
         } else {
             None
         }
-    }
-
-    fn week_at(&self, hour: u16) -> u8
-        requires { hour < year_hours self.now.year.number }
-        ensures week { result ≡ week_of self.now.year.number hour }
-    {
-        ((self.first_weekday + self.day_of(hour)) / 7) as u8
     }
 
     fn span_of_week(&self, week: u8) -> Span
@@ -62,5 +52,13 @@ impl Calendar {
         ensures monday { result ≡ monday self.now.year.number week }
     {
         (7 * week).saturating_sub(self.first_weekday)
+    }
+}
+
+impl HourOfYear<'_> {
+    fn week(self) -> u8
+        ensures week { result ≡ week_of self.entry.calendar.now.year.number self.entry.number }
+    {
+        ((self.calendar.first_weekday + self.day().number) / 7) as u8
     }
 }

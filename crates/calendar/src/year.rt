@@ -6,7 +6,7 @@ ghost use Rattle.calendar.specs.Easter.{easter};
 
 use crate::easter::entry;
 
-#[derive(Clone, Copy)]
+#[derive(Clone, Copy, PartialEq, Eq, PartialOrd, Ord, Hash, Debug)]
 pub struct Year {
     pub number: u16,
     ghost from: { 2002 ≤ number },
@@ -14,10 +14,11 @@ pub struct Year {
 }
 
 impl Year {
+    // An error type would say no more than `None`: the number is the caller's own.
     pub fn new(number: u16) -> Option<Year>
         ensures served_only { option_map (λ y. y.number) result ≡ provided (served number) number }
     {
-        if 2002 <= number && number <= 2299 {
+        if (2002..=2299).contains(&number) {
             Some(Year { number })
         } else {
             None

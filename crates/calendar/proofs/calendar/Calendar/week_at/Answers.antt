@@ -1,7 +1,0 @@
--- The week is counted as the definition counts it.
-use Rattle.calendar.specs.Weeks.{week_of}
-use Rattle.calendar.proofs.calendar.Calendar.week_at.Goals as goal
-
-pub returns : goal.returns
-unfolding week_of
-returns c = record { week = rw (c.args.self.now.begins, c.day_of.ensures.day) }
