@@ -6,6 +6,7 @@ ghost use Rattle.calendar.specs.Hours.{year_hours};
 use crate::month::Month;
 use crate::year::Year;
 
+#[tactic(auto, unfolding(crate::specs::Days::leap))]
 fn is_leap(year: u16) -> bool
     ensures leap { result ≡ leap year }
 {
@@ -13,6 +14,7 @@ fn is_leap(year: u16) -> bool
 }
 
 // How many hours a year has, served or not.
+#[tactic(auto, unfolding(crate::specs::Hours::year_hours))]
 pub fn year_hours(year: u16) -> u16
     ensures hours { result ≡ year_hours year }
     ensures at_most { result ≤ 8784 }

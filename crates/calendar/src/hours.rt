@@ -18,10 +18,7 @@ impl Calendar {
         ensures first { result.first ≡ summer_start_of self.now.year.number }
         ensures end { result.end ≡ summer_end_of self.now.year.number }
     {
-        Span {
-            first: self.clock.summer_start,
-            end: self.clock.summer_end,
-        }
+        self.clock.summer
     }
 
     // The hour at which a day begins by the clock.

@@ -10,6 +10,7 @@ use crate::calendar::Calendar;
 use crate::clock::Clock;
 use crate::days::year_hours;
 use crate::year::Year;
+use std::array::from_fn;
 
 impl Calendar {
     pub fn new(year: Year) -> Calendar
@@ -36,11 +37,7 @@ impl Clock {
     fn month_ends(&self) -> [u16; 13]
         ensures ends { (m : ℕ) → m ≤ 12 → slice_index result m ≡ month_end self.now.year.number m }
     {
-        let mut ends = [0; 13];
-        for month in 1..13 {
-            ends[month] = self.midnight(self.year.days_to(month as u8));
-        }
-        ends
+        from_fn(|month| self.midnight(self.year.days_to(month as u8)))
     }
 }
 

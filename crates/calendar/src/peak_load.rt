@@ -9,6 +9,7 @@ use crate::hour::HourOfYear;
 use crate::span::Span;
 
 impl Calendar {
+    #[tactic(auto, unfolding(crate::specs::PeakLoad::peak_load))]
     // Whether the hour is a peak-load hour; false past the year's last hour.
     pub fn is_peak_load(&self, hour: u16) -> bool
         ensures peak_load { result ≡ peak_load self.now.year.number hour }
@@ -27,6 +28,7 @@ impl Calendar {
 }
 
 impl HourOfYear<'_> {
+    #[tactic(auto, unfolding(crate::specs::PeakLoad::peak_load))]
     fn is_peak_load(self) -> bool
         ensures peak_load { result ≡ peak_load self.entry.calendar.now.year.number self.entry.number }
     {
@@ -37,12 +39,13 @@ impl HourOfYear<'_> {
         ensures winter { result ≡ winter (month_of self.entry.calendar.now.year.number self.entry.number) }
     {
         let ends = &self.calendar.month_ends;
-        self.number < ends[3] || ends[10] <= self.number
+        !(ends[3]..ends[10]).contains(&self.number)
     }
 }
 
 impl DayOfYear<'_> {
     // Monday to Friday, and no day off.
+    #[tactic(auto, unfolding(crate::specs::Days::weekday, crate::specs::PeakLoad::counts))]
     fn counts(self) -> bool
         ensures counts { result ≡ counts self.entry.calendar.now.year.number self.entry.number }
     {

@@ -29,11 +29,7 @@ impl Calendar {
         ensures first { let y = self.now.year.number in option_map (λ s. s.first) result ≡ provided (nat_lt week (weeks y)) (week_first y week) }
         ensures end { let y = self.now.year.number in option_map (λ s. s.end) result ≡ provided (nat_lt week (weeks y)) (week_end y week) }
     {
-        if week < self.weeks() {
-            Some(self.span_of_week(week))
-        } else {
-            None
-        }
+        (week < self.weeks()).then(|| self.span_of_week(week))
     }
 
     fn span_of_week(&self, week: u8) -> Span

@@ -1,24 +1,24 @@
 -- A month ends at the midnight after its last day.
-use Rattle.std.proofs.Common.{◌≡◌, ℕ, ◌<◌, length, sym, refl, ap, ◌∙◌, arith, length-set}
-use Rattle.std.proofs.lemmas.List.Edits.{fill_by_more}
-use Rattle.calendar.specs.Hours.{midnight, month_end}
-use Rattle.calendar.proofs.MonthLaws.{month_end_none}
+use Rattle.std.proofs.Common.{rules, ◌≡◌, ℕ, zero, suc, ◌+◌, ◌<◌, ◌≤◌, List, get_or, subst, ◌∙◌, inl, inr, arith}
+use Rattle.std.specs.Array.{IsFromFnResultFrom}
+use Rattle.std.specs.Fn.{Mut, Called}
+use Rattle.std.proofs.lemmas.Bool.{cases_eq}
+use Rattle.calendar.specs.Hours.{month_end}
 use Rattle.calendar.proofs.clock.Clock.month_ends.Goals as goal
 
-pub loop-month-init : goal.loop-month-init
-loop-month-init c =
-    (refl, λ m lt. let e : m ≡ 0 = omega arith in rw e (sym (month_end_none c.args.self.now.year.number)))
-
-pub loop-month-preserved : goal.loop-month-preserved
-unfolding month_end
-loop-month-preserved c =
-    let y : ℕ = c.args.self.now.year.number in
-    let lt : c.loop-month.month < length c.loop-month.ends = omega (arith, c.loop-month.invariant.0) in
-    let end : c.midnight.result ≡ month_end y c.loop-month.month =
-    c.midnight.ensures.midnight ∙ ap (midnight y) c.days_to.ensures.days in (
-      simp length-set c.loop-month.invariant.0,
-      λ m h. rw end (fill_by_more (month_end y) c.loop-month.ends c.loop-month.month 0 lt c.loop-month.invariant.1 m h),
-    )
+-- where each call answers h of its number and leaves the closure as it was, the elements are h of their places
+each_is : {F : Type 0} (g : Mut F (ℕ × Unit {0}) ℕ) (f : F) (ys : List ℕ) (h : ℕ → ℕ) → ((i y : ℕ) (q : F) → Called g f (i, tt) y q → (q ≡ f) × (y ≡ h i)) → (i n : ℕ) → IsFromFnResultFrom g f ys i n → (k : ℕ) → i ≤ k → k < i + n → get_or ys k 0 ≡ h k
+each_is g f ys h same i zero made k low high = absurd (omega arith)
+each_is g f ys h same i (suc n) made k low high =
+    let s = same i made.1 made.0 made.3 in
+    elim (cases_eq k i) [
+      | inl e ↦ rw e (made.2.1 0 ∙ s.1)
+      | inr later ↦ each_is g f ys h same (i + 1) n (subst (λ q. IsFromFnResultFrom g q ys (i + 1) n) s.0 made.4) k (omega arith) (omega arith)
+    ]
 
 pub returns : goal.returns
-returns c = record { ends = λ m le. c.loop-month.invariant.1 m (omega arith) }
+unfolding month_end
+returns c =
+    record {
+      ends = λ m le. each_is _ _ c.from_fn.result (month_end c.args.self.now.year.number) (λ i y q k. search rules) 0 13 c.from_fn.ensures.items.each m (omega arith) (omega arith);
+    }
