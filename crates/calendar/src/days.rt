@@ -53,6 +53,7 @@ impl Year {
     }
 
     // The last Sunday of a month, as a day of the year.
+    #[tactic(auto, using(crate::proofs::DayLaws::days_to_low), unfolding(crate::specs::Days::weekday, crate::specs::Days::last_sunday))]
     pub(crate) fn last_sunday(self, month: Month) -> u16
         ensures sunday { result ≡ last_sunday self.number month.number }
         ensures at_most { result ≤ 366 }

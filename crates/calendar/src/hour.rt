@@ -26,6 +26,7 @@ impl<'a> HourOfYear<'a> {
     }
 
     // The day of the year by the clock.
+    #[tactic(auto, using(crate::proofs::HourLaws::day_of_year), unfolding(crate::specs::Hours::day_of))]
     pub(crate) fn day(self) -> DayOfYear<'a>
         ensures calendar { result.calendar.now ≡ self.entry.calendar.now }
         ensures day { result.number ≡ day_of self.entry.calendar.now.year.number self.entry.number }

@@ -57,6 +57,7 @@ impl Year {
         self.days_to(2) + 21 + self.easter()
     }
 
+    #[tactic(auto, using(crate::proofs::EasterLaws::easter_sunday_low, crate::proofs::EasterLaws::easter_sunday_high), unfolding(crate::specs::Days::days_to, crate::specs::PeakLoad::days_off_of))]
     fn days_off(self) -> [u16; 9]
         ensures days { result ≡ days_off_of self.number }
     {

@@ -9,8 +9,8 @@ use crate::hour::HourOfYear;
 use crate::span::Span;
 
 impl Calendar {
-    #[tactic(auto, unfolding(crate::specs::PeakLoad::peak_load))]
     // Whether the hour is a peak-load hour; false past the year's last hour.
+    #[tactic(auto, unfolding(crate::specs::PeakLoad::peak_load))]
     pub fn is_peak_load(&self, hour: u16) -> bool
         ensures peak_load { result ≡ peak_load self.now.year.number hour }
     {
