@@ -37,6 +37,7 @@ impl Calendar {
     }
 
     // The days of the year.
+    #[tactic(auto, unfolding(crate::specs::Hours::year_hours))]
     pub(crate) fn days(&self) -> u16
         ensures days { result ≡ year_days self.now.year.number }
         ensures at_most { result ≤ 366 }

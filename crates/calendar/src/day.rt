@@ -27,6 +27,7 @@ impl<'a> DayOfYear<'a> {
     }
 
     // The hour at which the day begins by the clock.
+    #[tactic(auto, using(crate::proofs::HourLaws::midnight_in_year))]
     pub(crate) fn first_hour(self) -> HourOfYear<'a>
         ensures calendar { result.calendar.now ≡ self.entry.calendar.now }
         ensures midnight { result.number ≡ midnight self.entry.calendar.now.year.number self.entry.number }

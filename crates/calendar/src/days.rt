@@ -44,6 +44,7 @@ impl Year {
     }
 
     // The weekday of 1 January, 0 for Monday.
+    #[tactic(auto, unfolding(crate::specs::Days::days_before, crate::specs::Days::first_weekday_of))]
     pub(crate) fn first_weekday(self) -> u16
         ensures weekday { result ≡ first_weekday_of self.number }
         ensures below { result < 7 }

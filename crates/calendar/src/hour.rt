@@ -38,6 +38,7 @@ impl<'a> HourOfYear<'a> {
     }
 
     // The hour of the day by the clock.
+    #[tactic(auto, unfolding(crate::specs::Hours::time_of))]
     pub(crate) fn time(self) -> u16
         ensures time { result ≡ time_of self.entry.calendar.now.year.number self.entry.number }
     {

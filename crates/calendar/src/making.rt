@@ -42,6 +42,7 @@ impl Clock {
 }
 
 impl Year {
+    #[tactic(auto, using(crate::proofs::DayLaws::days_to_year), unfolding(crate::specs::Weeks::weeks))]
     fn week_count(self) -> u8
         ensures weeks { result ≡ weeks self.number }
         ensures at_most { result ≤ 54 }

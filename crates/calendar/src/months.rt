@@ -10,6 +10,7 @@ use crate::month::Month;
 use crate::span::Span;
 
 impl Calendar {
+    #[tactic(auto, using(crate::proofs::MonthLaws::month_end_mono))]
     pub fn month_hours(&self, month: Month) -> Span
         ensures first { result.first ≡ month_first self.now.year.number month.number }
         ensures end { result.end ≡ month_end self.now.year.number month.number }
@@ -28,6 +29,7 @@ impl Calendar {
     }
 
     // The first hour after a month; 0 for month 0.
+    #[tactic(auto, using(crate::proofs::HourLaws::year_hours_high, crate::proofs::MonthLaws::month_end_high))]
     fn month_end(&self, number: u8) -> u16
         requires { number ≤ 12 }
         ensures end { result ≡ month_end self.now.year.number number }

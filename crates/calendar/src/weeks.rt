@@ -52,6 +52,7 @@ impl Calendar {
 }
 
 impl HourOfYear<'_> {
+    #[tactic(auto, unfolding(crate::specs::Weeks::week_of))]
     fn week(self) -> u8
         ensures week { result ≡ week_of self.entry.calendar.now.year.number self.entry.number }
     {
