@@ -4,10 +4,8 @@ use calendar::{Calendar, Month, Year};
 use std::test::Fail;
 
 fn calendar_of(row: &Expected) -> Result<Calendar, Fail> {
-    match Year::new(row.year) {
-        Some(year) => Ok(Calendar::new(year)),
-        None => Err(Fail::new("no year")),
-    }
+    let year = Year::new(row.year).ok_or_else(|| Fail::new("no year"))?;
+    Ok(Calendar::new(year))
 }
 
 #[test]
@@ -26,45 +24,27 @@ fn years_and_summer_time(rt: HostRuntime) -> Result<(), Fail> {
 fn months(rt: HostRuntime) -> Result<(), Fail> {
     for row in YEARS.iter() {
         let calendar = calendar_of(row)?;
-        for number in 1..13u8 {
-            let Some(month) = Month::new(number) else {
-                return Err(Fail::new("no month"));
-            };
+        for number in 1..=12 {
+            let month = Month::new(number).ok_or_else(|| Fail::new("no month"))?;
             let hours = calendar.month_hours(month);
-            assert_eq!(rt; hours.end, row.month_ends[number as usize - 1]);
-            assert_eq!(rt;
-                calendar.peak_load_hours(hours),
-                row.peak_load[number as usize - 1]
-            );
-            assert_eq!(rt; month_number(&calendar, hours.first), number);
-            assert_eq!(rt;
-                month_number(&calendar, hours.end.saturating_sub(1)),
-                number
-            );
+            let place = month.number as usize - 1;
+            assert_eq!(rt; hours.end, row.month_ends[place]);
+            assert_eq!(rt; calendar.peak_load_hours(hours), row.peak_load[place]);
+            assert_eq!(rt; calendar.month_of(hours.first), Some(month));
+            assert_eq!(rt; calendar.month_of(hours.end.saturating_sub(1)), Some(month));
         }
-        assert_eq!(rt; month_number(&calendar, row.hours), 0);
+        assert_eq!(rt; calendar.month_of(row.hours), None);
     }
     Ok(())
-}
-
-// The month of an hour, or 0.
-fn month_number(calendar: &Calendar, hour: u16) -> u8 {
-    match calendar.month_of(hour) {
-        Some(month) => month.number,
-        None => 0,
-    }
 }
 
 #[test]
 fn peak_load_hours_one_by_one(rt: HostRuntime) -> Result<(), Fail> {
     for row in YEARS.iter() {
         let calendar = calendar_of(row)?;
-        let mut sum = 0u32;
-        for hour in 0..u16::MAX {
-            if calendar.is_peak_load(hour) {
-                sum = sum.wrapping_add(hour as u32);
-            }
-        }
+        let sum = (0..u16::MAX)
+            .filter(|hour| calendar.is_peak_load(*hour))
+            .fold(0u32, |sum, hour| sum.wrapping_add(hour as u32));
         assert_eq!(rt; sum, row.peak_load_sum);
     }
     Ok(())
@@ -77,9 +57,9 @@ fn weeks(rt: HostRuntime) -> Result<(), Fail> {
         assert_eq!(rt; calendar.weeks(), row.weeks);
         let mut end = 0;
         for week in 0..row.weeks {
-            let Some(span) = calendar.week_hours(week) else {
-                return Err(Fail::new("no week"));
-            };
+            let span = calendar
+                .week_hours(week)
+                .ok_or_else(|| Fail::new("no week"))?;
             assert_eq!(rt; span.first, end);
             assert_eq!(rt; calendar.week_of(span.first), Some(week));
             end = span.end;
