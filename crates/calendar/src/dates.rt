@@ -40,7 +40,6 @@ impl Calendar {
     #[tactic(auto, unfolding(crate::specs::Hours::year_hours))]
     pub(crate) fn days(&self) -> u16
         ensures days { result ≡ year_days self.now.year.number }
-        ensures at_most { result ≤ 366 }
     {
         self.hours() / 24
     }

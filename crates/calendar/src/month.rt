@@ -15,7 +15,7 @@ pub struct Month {
 }
 
 impl Month {
-    // An error type would say no more than `None`: the number is the caller's own.
+    // An error type would say no more than `None`, and one type for both ranges would lose the names Year and Month.
     pub fn new(number: u8) -> Option<Month>
         ensures months_only { option_map (λ m. m.number) result ≡ provided (is_month number) number }
     {

@@ -1,5 +1,5 @@
 // The months of a year.
-ghost use Rattle.std.specs.Prelude.{◌≡◌, ◌≤◌, nat_lt};
+ghost use Rattle.std.specs.Prelude.{◌≡◌, nat_lt};
 ghost use Rattle.std.specs.Option.{option_map};
 ghost use Rattle.calendar.specs.Hours.{year_hours, month_of, month_first, month_end};
 ghost use Rattle.calendar.specs.Years.{provided};
@@ -10,14 +10,14 @@ use crate::month::Month;
 use crate::span::Span;
 
 impl Calendar {
-    #[tactic(auto, using(crate::proofs::MonthLaws::month_end_mono))]
     pub fn month_hours(&self, month: Month) -> Span
         ensures first { result.first ≡ month_first self.now.year.number month.number }
         ensures end { result.end ≡ month_end self.now.year.number month.number }
     {
+        let number = month.number as usize;
         Span {
-            first: self.month_end(month.number - 1),
-            end: self.month_end(month.number),
+            first: self.month_ends[number - 1],
+            end: self.month_ends[number],
         }
     }
 
@@ -26,16 +26,6 @@ impl Calendar {
         ensures month { let y = self.now.year.number in option_map (λ m. m.number) result ≡ provided (nat_lt hour (year_hours y)) (month_of y hour) }
     {
         HourOfYear::new(self, hour).map(|hour| hour.month())
-    }
-
-    // The first hour after a month; 0 for month 0.
-    #[tactic(auto, using(crate::proofs::HourLaws::year_hours_high, crate::proofs::MonthLaws::month_end_high))]
-    fn month_end(&self, number: u8) -> u16
-        requires { number ≤ 12 }
-        ensures end { result ≡ month_end self.now.year.number number }
-        ensures at_most { result ≤ 8784 }
-    {
-        self.month_ends[number as usize]
     }
 }
 

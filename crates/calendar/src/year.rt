@@ -14,7 +14,7 @@ pub struct Year {
 }
 
 impl Year {
-    // An error type would say no more than `None`: the number is the caller's own.
+    // An error type would say no more than `None`, and one type for both ranges would lose the names Year and Month.
     pub fn new(number: u16) -> Option<Year>
         ensures served_only { option_map (λ y. y.number) result ≡ provided (served number) number }
     {

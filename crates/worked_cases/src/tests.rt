@@ -24,6 +24,7 @@ fn years_and_summer_time(rt: HostRuntime) -> Result<(), Fail> {
 fn months(rt: HostRuntime) -> Result<(), Fail> {
     for row in YEARS.iter() {
         let calendar = calendar_of(row)?;
+        // a number that is no month must fail the test, so none is left out
         for number in 1..=12 {
             let month = Month::new(number).ok_or_else(|| Fail::new("no month"))?;
             let hours = calendar.month_hours(month);
@@ -56,6 +57,7 @@ fn weeks(rt: HostRuntime) -> Result<(), Fail> {
         let calendar = calendar_of(row)?;
         assert_eq!(rt; calendar.weeks(), row.weeks);
         let mut end = 0;
+        // the index is the week itself
         for week in 0..row.weeks {
             let span = calendar
                 .week_hours(week)
