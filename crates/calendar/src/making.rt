@@ -54,11 +54,13 @@ impl Year {
     fn easter_sunday(self) -> u16
         ensures easter { result ≡ easter_sunday_of self.number }
         ensures sunday { weekday self.number result ≡ 6 }
+        ensures at_least { 80 ≤ result }
+        ensures at_most { result ≤ 115 }
     {
         self.days_to(2) + 21 + self.easter()
     }
 
-    #[tactic(auto, using(crate::proofs::EasterLaws::easter_sunday_low, crate::proofs::EasterLaws::easter_sunday_high), unfolding(crate::specs::Days::days_to, crate::specs::PeakLoad::days_off_of))]
+    #[tactic(auto, unfolding(crate::specs::Days::days_to, crate::specs::PeakLoad::days_off_of))]
     fn days_off(self) -> [u16; 9]
         ensures days { result ≡ days_off_of self.number }
     {
