@@ -1,6 +1,6 @@
 // The four flows that are measured at a connection.
-ghost use Rattle.std.specs.Prelude.{◌≡◌, ◌≤◌, neg_ℤ};
-ghost use Rattle.hours.specs.Values.{flow_of, limit, limited, positive};
+ghost use Rattle.std.specs.Prelude.{◌≡◌, ◌≤◌};
+ghost use Rattle.hours.specs.Values.{flow_of, limited, positive};
 
 use super::record::HourRecord;
 
@@ -18,37 +18,19 @@ impl Flow {
         ensures flow { result ≡ flow_of self (limited value) }
         ensures at_most { result ≤ 32000 }
     {
+        let value = value.limited();
         match self {
-            Flow::Drawn => drawn(value.active),
-            Flow::FedIn => fed_in(value.active),
-            Flow::ReactiveDrawn => drawn(value.reactive),
-            Flow::ReactiveFedIn => fed_in(value.reactive),
+            Flow::Drawn => positive(value.active),
+            Flow::FedIn => positive(-value.active),
+            Flow::ReactiveDrawn => positive(value.reactive),
+            Flow::ReactiveFedIn => positive(-value.reactive),
         }
     }
 }
 
-fn drawn(value: i16) -> u16
-    ensures positive { result ≡ positive (limit value) }
-    ensures at_most { result ≤ 32000 }
+// A value above zero, or 0.
+fn positive(value: i16) -> u16
+    ensures positive { result ≡ positive value }
 {
-    if value > 32000 {
-        32000
-    } else if value > 0 {
-        value as u16
-    } else {
-        0
-    }
-}
-
-fn fed_in(value: i16) -> u16
-    ensures negative { result ≡ positive (neg_ℤ (limit value)) }
-    ensures at_most { result ≤ 32000 }
-{
-    if value < -32000 {
-        32000
-    } else if value < 0 {
-        value.unsigned_abs()
-    } else {
-        0
-    }
+    u16::try_from(value).unwrap_or(0)
 }

@@ -27,19 +27,14 @@ impl HourRecord {
 fn nearer_limit(value: i16) -> i16
     ensures limit { result ≡ limit value }
 {
-    if value > 32000 {
-        32000
-    } else if value < -32000 {
-        -32000
-    } else {
-        value
-    }
+    value.clamp(-32_000, 32_000)
 }
 
 // Writes the record of an hour in place; past the lent records it writes nothing.
 pub fn write_record(records: &mut [HourRecord], hour: u16, value: HourRecord)
     ensures written { records.new ≡ slice_set records.old hour value }
 {
+    // By index: of a slice from which `get_mut` lends an element, no element is known afterwards.
     let i = usize::from(hour);
     if i < records.len() {
         records[i] = value;
