@@ -1,5 +1,6 @@
--- The first absent hour of a part of the year: what it says of the hours before it, and how a scan finds it.
-use Rattle.std.proofs.Common.{◌≡◌, ℕ, zero, suc, ◌+◌, ◌<◌, ◌≤◌, Bool, true, false, cond, Some, None, Option, sym, refl, ap, ◌∙◌, ap₂, inl, inr, add-one, arith}
+-- The first absent hour of a part of the year: what it says of the hours before it, and what a search for it answers.
+use Rattle.std.proofs.Common.{◌≡◌, ℕ, zero, suc, ◌+◌, ◌-◌, ◌<◌, ◌≤◌, Bool, true, false, cond, Some, None, Option, sym, refl, ap, ◌∙◌, ap₂, inl, inr, arith}
+use Rattle.std.specs.Option.{MatchOption}
 use Rattle.std.proofs.lemmas.Bool.{cases_Bool, cases_eq}
 use Rattle.hours.specs.Presence.{first_absent}
 
@@ -30,13 +31,20 @@ absent_alike f g k zero same = refl
 absent_alike f g k (suc n) same =
     ap₂ (λ (t : Bool) (x : Option ℕ). cond t x (Some k)) (same k (omega arith) (omega arith)) (absent_alike f g (suc k) n (λ h ge lt. same h (omega arith) (omega arith)))
 
--- one turn of a scan
-pub absent_here : (there : ℕ → Bool) (k n : ℕ) → 0 < n → there k ≡ false → first_absent there k n ≡ Some k
-absent_here there k zero lt gone = absurd (omega arith)
-absent_here there k (suc n) lt gone = ap (λ (t : Bool). cond t (first_absent there (suc k) n) (Some k)) gone
+-- the first hour that is not there, where those before it are
+found_at : (there : ℕ → Bool) (k n i : ℕ) → k ≤ i → i < k + n → there i ≡ false → ((h : ℕ) → k ≤ h → h < i → there h ≡ true) → first_absent there k n ≡ Some i
+found_at there k zero i ge lt gone all = absurd (omega arith)
+found_at there k (suc n) i ge lt gone all = elim (cases_eq i k) [
+  | inl same ↦ ap (λ (t : Bool). cond t (first_absent there (suc k) n) (Some k)) (ap there (sym same) ∙ gone) ∙ ap (λ (h : ℕ). Some h) (sym same)
+  | inr ne ↦
+      let apart : i ≡ k → ⊥ = ne in
+      ap (λ (t : Bool). cond t (first_absent there (suc k) n) (Some k)) (all k (omega arith) (omega arith))
+      ∙ found_at there (suc k) n i (omega arith) (omega arith) gone (λ h ge lt. all h (omega arith) lt)
+]
 
-pub absent_later : (there : ℕ → Bool) (k n m : ℕ) → n ≡ suc m → there k ≡ true → first_absent there (k + 1) m ≡ first_absent there k n
-absent_later there k n m e here =
-    ap (λ (j : ℕ). first_absent there j m) (add-one k)
-    ∙ sym (ap (λ (t : Bool). cond t (first_absent there (suc k) m) (Some k)) here)
-    ∙ ap (first_absent there k) (sym e)
+-- what a search from k up to e answers
+pub absent_found : (there : ℕ → Bool) (k e : ℕ) (r : Option ℕ) → k ≤ e
+    → MatchOption r ((h : ℕ) → k ≤ h → h < e → there h ≡ true) (λ i. (k ≤ i) × (i < e) × (there i ≡ false) × ((h : ℕ) → k ≤ h → h < i → there h ≡ true))
+    → r ≡ first_absent there k (e - k)
+absent_found there k e None le all = sym (none_absent there k (e - k) (λ h ge lt. all h ge (omega arith)))
+absent_found there k e (Some i) le found = sym (found_at there k (e - k) i found.0 (let lt = found.1 in omega arith) found.2 found.3)

@@ -1,8 +1,9 @@
 -- The ones of a word are its present hours: counting a part of the year word by word.
-use Rattle.std.proofs.Common.{◌≡◌, ℕ, zero, suc, ◌+◌, ◌*◌, ◌/◌, ◌%◌, ◌^◌, ◌<◌, ◌≤◌, Bool, true, false, cond, not, eqb, List, get_or, sym, refl, ap, ◌∙◌, ap₂, add-one, arith, lit<}
+use Rattle.std.proofs.Common.{◌≡◌, ℕ, zero, suc, ◌+◌, ◌-◌, ◌*◌, ◌/◌, ◌%◌, ◌^◌, ◌<◌, ◌≤◌, min, Bool, true, false, cond, not, eqb, List, get_or, sym, refl, ap, ◌∙◌, ap₂, inl, inr, add-one, arith, lit<}
 use native.Mathlib.Nat.{mod-one}
 use lib.Count.{ones, ones_cat, ones_in}
 use lib.Pow.{mod-pow-add}
+use Rattle.std.proofs.lemmas.Bool.{cases_lt}
 use Rattle.std.proofs.lemmas.Nat.{div-mul-add, mod_below, mod-mul-add, shr-shr}
 use Rattle.hours.specs.Presence.{count, present}
 
@@ -61,6 +62,30 @@ count_word words q b (suc n) le =
     let shift : ones (w / 2 ^ b / 2 ^ 1 % 2 ^ n) ≡ ones (w / 2 ^ (b + 1) % 2 ^ n) = ap (λ (x : ℕ). ones (x % 2 ^ n)) (shr-shr w b 1) in
     let same : ones (w / 2 ^ b % 2 ^ (n + 1)) ≡ ones (w / 2 ^ b % 2 ^ suc n) = ap (λ (m : ℕ). ones (w / 2 ^ b % 2 ^ m)) (add-one n) in
     omega arith
+
+-- the present hours from hour f of word i up to hour e, which is at most the end of that word
+pub count_in_word : (words : List ℕ) (i f e : ℕ) → i * 64 ≤ f → f < (i + 1) * 64 → f ≤ e → e ≤ (i + 1) * 64
+    → count (present words) f (e - f) ≡ ones (get_or words i 0 / 2 ^ (f % 64) % 2 ^ (e - f))
+count_in_word words i f e from below le most =
+    let place : f ≡ i * 64 + f % 64 = omega arith in
+    ap (λ (h : ℕ). count (present words) h (e - f)) place ∙ count_word words i (f % 64) (e - f) (omega arith)
+
+-- a part from f up to last, cut at n if that is not past its end
+pub count_cut : (there : ℕ → Bool) (f e n last : ℕ) → f ≤ e → e ≡ min last n → count there f (last - f) ≡ count there f (e - f) + count there n (last - n)
+count_cut there f e n last le at = elim (cases_lt last n) [
+  | inl short ↦
+      let all : e ≡ last = omega arith in
+      let none : last - n ≡ 0 = omega arith in
+      let rest : count there n (last - n) ≡ 0 = ap (count there n) none in
+      let same : count there f (last - f) ≡ count there f (e - f) = ap (λ (k : ℕ). count there f (k - f)) (sym all) in
+      omega arith
+  | inr long ↦
+      let cut : e ≡ n = omega arith in
+      let sizes : last - f ≡ n - f + (last - n) = omega arith in
+      let place : f + (n - f) ≡ n = omega arith in
+      ap (count there f) sizes ∙ count_split there f (n - f) (last - n)
+      ∙ ap₂ (λ (k h : ℕ). count there f (k - f) + count there h (last - n)) (sym cut) place
+]
 
 -- two tests that agree on a part count alike
 pub count_alike : (f g : ℕ → Bool) (h n : ℕ) → ((k : ℕ) → h ≤ k → k < h + n → f k ≡ g k) → count f h n ≡ count g h n

@@ -8,9 +8,10 @@ use calendar::Span;
 fn word(words: &[u64], i: usize) -> u64
     ensures word { result ≡ slice_index words.now i }
 {
-    if i < words.len() { words[i] } else { 0 }
+    words.get(i).copied().unwrap_or(0)
 }
 
+#[tactic(auto, unfolding(crate::specs::Presence::present), using(std::proofs::lemmas::Nat::and_mask))]
 pub fn is_present(words: &[u64], hour: u16) -> bool
     ensures present { result ≡ present words.now hour }
 {
@@ -18,9 +19,11 @@ pub fn is_present(words: &[u64], hour: u16) -> bool
 }
 
 // Sets the bit of an hour; past the lent words it sets none.
+#[tactic(auto, unfolding(crate::specs::Presence::marked), using(std::proofs::lemmas::List::set_past))]
 pub fn mark(words: &mut [u64], hour: u16)
     ensures marked { words.new ≡ marked words.old hour }
 {
+    // By index: of a slice from which `get_mut` lends an element, no element is known afterwards.
     let i = usize::from(hour / 64);
     if i < words.len() {
         words[i] |= 1 << (hour % 64);
@@ -32,19 +35,14 @@ pub fn clear(words: &mut [u64])
     ensures cleared { words.new ≡ cleared words.old }
 {
     let end = words.len().min(138);
-    words[0..end].fill(0);
+    words[..end].fill(0);
 }
 
 // The first hour of a part of the year that has no value.
 pub fn first_absent(words: &[u64], span: Span) -> Option<u16>
     ensures first { result ≡ first_absent (present words.now) span.first (span.end - span.first) }
 {
-    for hour in span.first..span.end {
-        if !is_present(words, hour) {
-            return Some(hour);
-        }
-    }
-    None
+    (span.first..span.end).find(|hour| !is_present(words, *hour))
 }
 
 // The ones among `n` bits of a word, from bit `low` on.
@@ -66,12 +64,11 @@ pub fn count_present(words: &[u64], span: Span) -> u16
     ensures count { result ≡ count (present words.now) span.first (span.end - span.first) }
 {
     let mut total = 0;
-    let mut hour = span.first;
-    while hour < span.end {
-        let next = (hour / 64 * 64 + 64).min(span.end);
-        let bits = word(words, usize::from(hour / 64));
-        total += ones_from(bits, u32::from(hour % 64), u32::from(next - hour)) as u16;
-        hour = next;
+    for i in span.first / 64..span.end.div_ceil(64) {
+        let first = span.first.max(i * 64);
+        let end = span.end.min(i * 64 + 64);
+        let bits = word(words, usize::from(i));
+        total += ones_from(bits, u32::from(first % 64), u32::from(end - first)) as u16;
     }
     total
 }

@@ -1,7 +1,0 @@
--- `word` answers 0 past the words that are lent.
-use Rattle.std.proofs.Common.{sym}
-use Rattle.std.proofs.lemmas.List.{get_or_past}
-use Rattle.hours.proofs.presence.word.Goals as goal
-
-pub returns-else-i-words : goal.returns-else-i-words
-returns-else-i-words c = record { word = sym (get_or_past c.args.words.now c.args.i 0 c.if-i-words.false) }
