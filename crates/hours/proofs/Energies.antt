@@ -1,12 +1,10 @@
 -- The energy of a part, hour by hour.
-use Rattle.std.proofs.Common.{◌≡◌, ℕ, suc, ◌+◌, ◌<◌, ◌≤◌, Bool, cond, List, map, length, get_or, drop, pos, ap, ◌∙◌, arith}
+use Rattle.std.proofs.Common.{◌≡◌, ℕ, suc, ◌+◌, ◌<◌, ◌≤◌, Bool, cond, List, map, length, get_or, drop, ap, ◌∙◌, arith}
 use Rattle.std.proofs.lemmas.List.{at_drop_all, at_drop_more}
 use Rattle.hours.specs.declared.record.HourRecord.{HourRecord}
 use Rattle.hours.specs.declared.flow.Flow.TheVariants.{Drawn}
 use Rattle.hours.specs.Values.{energy_in, flow_of, limited}
-
-abbrev pub blank : HourRecord
-blank = record { active = pos 0; reactive = pos 0 }
+use Rattle.hours.proofs.Numbered.{blank}
 
 -- what hour i of the part draws
 abbrev pub drawn_at : List HourRecord → ℕ → ℕ

@@ -1,5 +1,6 @@
 pub mod Counted
 pub mod Absent
 pub mod Energies
+pub mod Numbered
 pub mod PartTotals
 pub mod Marks

@@ -1,5 +1,5 @@
 -- The totals of a part, hour by hour: those so far and those of the hours that are left make those of the part.
-use Rattle.std.proofs.Common.{◌≡◌, ℕ, suc, ◌+◌, ◌*◌, ◌<◌, ◌≤◌, max, Bool, true, false, cond, not, List, map, length, get_or, drop, ℤ, pos, neg_ℤ, ap, ◌∙◌, arith}
+use Rattle.std.proofs.Common.{◌≡◌, ℕ, suc, ◌+◌, ◌*◌, ◌<◌, ◌≤◌, max, Bool, true, false, cond, not, List, map, length, get_or, drop, ap, ◌∙◌, arith}
 use Rattle.std.proofs.lemmas.List.{at_drop_all, at_drop_more}
 use Rattle.std.proofs.lemmas.Int.{ints}
 use Rattle.calendar.specs.PeakLoad.{peak_load}
@@ -10,23 +10,16 @@ use Rattle.hours.specs.declared.scan.Totals.{Totals}
 use Rattle.hours.specs.declared.scan.Peak.{Peak}
 use Rattle.hours.specs.declared.scan.Peak.TheVariants as peak
 use Rattle.hours.specs.Totals.{nothing, peak_of, totals_of, with_hour}
-use Rattle.hours.specs.Values.{energy_in, flow_of, highest_in, highest_of, limit, limited, other, positive}
-
-abbrev pub blank : HourRecord
-blank = record { active = pos 0; reactive = pos 0 }
+use Rattle.hours.specs.Values.{energy_in, flow_of, highest_in, highest_of, limited, other}
+use Rattle.hours.proofs.Energies.{energy_more, energy_none}
+use Rattle.hours.proofs.Numbered.{blank}
 
 -- a limited value is at most 32,000
-drawn_most : (z : ℤ) → positive (limit z) ≤ 32000
-drawn_most z = grind (arith, ints)
-
-fed_in_most : (z : ℤ) → positive (neg_ℤ (limit z)) ≤ 32000
-fed_in_most z = grind (arith, ints)
-
 flow_most : (f : Flow) (v : HourRecord) → flow_of f (limited v) ≤ 32000
-flow_most Drawn v = drawn_most v.active
-flow_most FedIn v = fed_in_most v.active
-flow_most ReactiveDrawn v = drawn_most v.reactive
-flow_most ReactiveFedIn v = fed_in_most v.reactive
+flow_most Drawn v = grind (arith, ints)
+flow_most FedIn v = grind (arith, ints)
+flow_most ReactiveDrawn v = grind (arith, ints)
+flow_most ReactiveFedIn v = grind (arith, ints)
 
 -- the totals t of the hours before hour i of the part, and what its other hours come to
 pub record Kept (y first i : ℕ) (hours : List HourRecord) (t : Totals) : Type 0 where
@@ -67,11 +60,6 @@ module _ (y first : ℕ) (hours : List HourRecord) where
     next : suc (first + i) ≡ first + (i + 1)
     next = omega arith
 
-    energy_more : (counts : ℕ → Bool) → energy_in counts (first + i) (map limited (drop i hours)) ≡ cond (counts (first + i)) (flow_of Drawn here) 0 + energy_in counts (first + (i + 1)) (map limited (drop (i + 1) hours))
-    energy_more counts =
-        at_drop_more (λ l. energy_in counts (first + i) (map limited l)) hours i blank lt
-        ∙ ap (λ (h : ℕ). cond (counts (first + i)) (flow_of Drawn here) 0 + energy_in counts h (map limited (drop (i + 1) hours))) next
-
     highest_more : (f : Flow) → highest_of f (map limited (drop i hours)) ≡ max (flow_of f here) (highest_of f (map limited (drop (i + 1) hours)))
     highest_more f = at_drop_more (λ l. highest_of f (map limited l)) hours i blank lt
 
@@ -96,8 +84,8 @@ module _ (y first : ℕ) (hours : List HourRecord) where
         let part = some p (flow_of Drawn here) in
         let most : flow_of Drawn here ≤ 32000 = flow_most Drawn (get_or hours i blank) in
         record {
-          peak_load_kwh = omega (arith, energy_more (peak_load y), k.peak_load_kwh);
-          other_kwh = omega (arith, energy_more (other (peak_load y)), k.other_kwh);
+          peak_load_kwh = omega (arith, energy_more (peak_load y) hours first i lt, k.peak_load_kwh);
+          other_kwh = omega (arith, energy_more (other (peak_load y)) hours first i lt, k.other_kwh);
           drawn = omega (arith, highest_more Drawn, k.drawn);
           high_load = omega (arith, high_load_more, k.high_load);
           reactive_drawn = omega (arith, highest_more ReactiveDrawn, k.reactive_drawn);
@@ -121,12 +109,11 @@ module _ (y first : ℕ) (hours : List HourRecord) where
   pub kept_all : (i : ℕ) → length hours ≤ i → (t : Totals) → Kept y first i hours t → t ≡ totals_of y first (map limited hours)
   unfolding totals_of
   kept_all i past t k =
-      let none : (counts : ℕ → Bool) → energy_in counts (first + i) (map limited (drop i hours)) ≡ 0 = λ counts. at_drop_all (λ l. energy_in counts (first + i) (map limited l)) hours i past in
       let none' : (f : Flow) → highest_of f (map limited (drop i hours)) ≡ 0 = λ f. at_drop_all (λ l. highest_of f (map limited l)) hours i past in
       let none'' : highest_in (peak_load y) (first + i) (map limited (drop i hours)) ≡ 0 = at_drop_all (λ l. highest_in (peak_load y) (first + i) (map limited l)) hours i past in
       same _ _ _ _ _ _ _ _ _ _ _ _
-      (omega (arith, none (peak_load y), k.peak_load_kwh))
-      (omega (arith, none (other (peak_load y)), k.other_kwh))
+      (omega (arith, energy_none (peak_load y) hours first i past, k.peak_load_kwh))
+      (omega (arith, energy_none (other (peak_load y)) hours first i past, k.other_kwh))
       (omega (arith, none' Drawn, k.drawn))
       (omega (arith, none'', k.high_load))
       (omega (arith, none' ReactiveDrawn, k.reactive_drawn))

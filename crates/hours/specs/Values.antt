@@ -1,5 +1,7 @@
 -- What an hour's record counts as, and what is asked of a list of values: highest values and energies.
-use Rattle.std.specs.Prelude.{ℕ, suc, ◌+◌, max, Bool, cond, not, List, [], ◌∷◌, ℤ, pos, negsuc, neg_ℤ, int_lt}
+use Rattle.std.specs.Prelude.{ℕ, suc, ◌+◌, max, Bool, cond, not, List, [], ◌∷◌, map, ℤ, pos, negsuc, neg_ℤ, int_lt}
+use Rattle.std.specs.List.{between}
+use Rattle.calendar.specs.declared.span.Span.{Span}
 use Rattle.hours.specs.declared.record.HourRecord.{HourRecord}
 use Rattle.hours.specs.declared.flow.Flow.{Flow}
 use Rattle.hours.specs.declared.flow.Flow.TheVariants.{Drawn, FedIn, ReactiveDrawn, ReactiveFedIn}
@@ -10,6 +12,10 @@ limit z = cond (int_lt (pos 32000) z) (pos 32000) (cond (int_lt z (negsuc 31999)
 
 abbrev pub limited : HourRecord → HourRecord
 limited v = record { active = limit v.active; reactive = limit v.reactive }
+
+-- what the hours of a part count as, as far as their records are lent
+abbrev pub values_in : Span → List HourRecord → List HourRecord
+values_in span records = map limited (between span.first span.end records)
 
 -- a value above zero, or 0
 abbrev pub positive : ℤ → ℕ

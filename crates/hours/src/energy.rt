@@ -1,11 +1,10 @@
 // The energy that is drawn in a part of the year, in peak-load hours and in others.
-ghost use Rattle.std.specs.Prelude.{◌≡◌, ◌≤◌, map};
+ghost use Rattle.std.specs.Prelude.{◌≡◌, ◌≤◌};
 ghost use Rattle.calendar.specs.PeakLoad.{peak_load};
-ghost use Rattle.std.specs.List.{between};
-ghost use Rattle.hours.specs.Values.{energy_in, limited, other};
+ghost use Rattle.hours.specs.Values.{energy_in, other, values_in};
 
-use super::flow::Flow;
-use super::record::{HourRecord, part};
+use super::record::HourRecord;
+use super::scan::part_totals;
 use calendar::{Calendar, Span};
 
 // Energy in kWh.
@@ -15,20 +14,14 @@ pub struct Energy {
     pub other: u32,
 }
 
+#[tactic(auto, unfolding(crate::specs::Totals::totals_of))]
 pub fn drawn_energy(records: &[HourRecord], span: Span, calendar: &Calendar) -> Energy
-    ensures peak_load { result.peak_load ≡ energy_in (peak_load calendar.now.year.number) span.first (map limited (between span.first span.end records.now)) }
-    ensures other { result.other ≡ energy_in (other (peak_load calendar.now.year.number)) span.first (map limited (between span.first span.end records.now)) }
+    ensures peak_load { result.peak_load ≡ energy_in (peak_load calendar.now.year.number) span.first (values_in span records.now) }
+    ensures other { result.other ≡ energy_in (other (peak_load calendar.now.year.number)) span.first (values_in span records.now) }
 {
-    let mut peak_load = 0;
-    let mut other = 0;
-    let hours = part(records, span);
-    for (i, hour) in hours.iter().enumerate() {
-        let drawn = u32::from(Flow::Drawn.of(*hour));
-        if calendar.is_peak_load(span.first + i as u16) {
-            peak_load += drawn;
-        } else {
-            other += drawn;
-        }
+    let totals = part_totals(records, span, calendar);
+    Energy {
+        peak_load: totals.peak_load_kwh,
+        other: totals.other_kwh,
     }
-    Energy { peak_load, other }
 }

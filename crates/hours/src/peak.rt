@@ -1,7 +1,6 @@
 // The highest value of a part of the year.
-ghost use Rattle.std.specs.Prelude.{◌≡◌, ◌≤◌, map};
-ghost use Rattle.std.specs.List.{between};
-ghost use Rattle.hours.specs.Values.{highest_of, limited};
+ghost use Rattle.std.specs.Prelude.{◌≡◌, ◌≤◌};
+ghost use Rattle.hours.specs.Values.{highest_of, values_in};
 
 use super::flow::Flow;
 use super::record::{HourRecord, part};
@@ -9,13 +8,9 @@ use calendar::Span;
 
 // The highest value of a flow among the hours of a part, 0 if none is positive.
 pub fn highest(records: &[HourRecord], span: Span, flow: Flow) -> u16
-    ensures highest { result ≡ highest_of flow (map limited (between span.first span.end records.now)) }
+    ensures highest { result ≡ highest_of flow (values_in span records.now) }
     ensures at_most { result ≤ 32000 }
 {
-    let mut high = 0;
     let hours = part(records, span);
-    for hour in hours {
-        high = flow.of(*hour).max(high);
-    }
-    high
+    hours.iter().map(|hour| flow.of(*hour)).max().unwrap_or(0)
 }

@@ -1,8 +1,7 @@
 // What a part of the year comes to, in one pass over its hours.
-ghost use Rattle.std.specs.Prelude.{◌≡◌, ◌+◌, ◌≤◌, map};
-ghost use Rattle.std.specs.List.{between};
+ghost use Rattle.std.specs.Prelude.{◌≡◌, ◌+◌, ◌≤◌};
 ghost use Rattle.hours.specs.Totals.{Within, nothing, peak_of, totals_of, with_hour};
-ghost use Rattle.hours.specs.Values.{limited};
+ghost use Rattle.hours.specs.Values.{limited, values_in};
 
 use super::flow::Flow;
 use super::record::{HourRecord, part};
@@ -10,7 +9,7 @@ use calendar::{Calendar, Span};
 
 // Drawn energy in kWh, in peak-load hours and in others, and the highest values: drawn, drawn in a peak-load hour, and
 // reactive, drawn and fed in.
-#[derive(Clone, Copy, PartialEq, Eq, Debug)]
+#[derive(Clone, Copy, PartialEq, Eq, Default, Debug)]
 pub struct Totals {
     pub peak_load_kwh: u32,
     pub other_kwh: u32,
@@ -34,14 +33,7 @@ impl Totals {
     pub fn none() -> Totals
         ensures nothing { result ≡ nothing }
     {
-        Totals {
-            peak_load_kwh: 0,
-            other_kwh: 0,
-            drawn: 0,
-            high_load: 0,
-            reactive_drawn: 0,
-            reactive_fed_in: 0,
-        }
+        Totals::default()
     }
 
     pub fn peak(&self, peak: Peak) -> u16
@@ -74,13 +66,13 @@ impl Totals {
 }
 
 pub fn part_totals(records: &[HourRecord], span: Span, calendar: &Calendar) -> Totals
-    ensures totals { result ≡ totals_of calendar.now.year.number span.first (map limited (between span.first span.end records.now)) }
+    ensures totals { result ≡ totals_of calendar.now.year.number span.first (values_in span records.now) }
     ensures within { Within result }
 {
     let mut sum = Totals::none();
     let hours = part(records, span);
-    for (i, hour) in hours.iter().enumerate() {
-        sum = sum.with(*hour, calendar.is_peak_load(span.first + i as u16));
+    for (hour, value) in (span.first..span.end).zip(hours) {
+        sum = sum.with(*value, calendar.is_peak_load(hour));
     }
     sum
 }

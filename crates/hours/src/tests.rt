@@ -11,6 +11,12 @@ fn value(active: i16, reactive: i16) -> HourRecord {
     HourRecord { active, reactive }
 }
 
+#[cfg(test)]
+fn calendar() -> Result<Calendar, Fail> {
+    let year = Year::new(2022).ok_or_else(|| Fail::new("2022 is served"))?;
+    Ok(Calendar::new(year))
+}
+
 #[test]
 fn values_beyond_the_limits_count_as_the_nearer_limit(rt: HostRuntime) {
     assert_eq!(rt; value(32_767, -32_768).limited(), value(32_000, -32_000));
@@ -142,10 +148,7 @@ fn a_part_is_scanned_in_place(rt: HostRuntime) -> Result<(), Fail> {
         highest(&records, Span { first: 0, end: 53 }, Flow::Drawn),
         0
     );
-    let Some(year) = Year::new(2022) else {
-        return Err(Fail::new("2022 is served"));
-    };
-    let energy = drawn_energy(&records, early, &Calendar::new(year));
+    let energy = drawn_energy(&records, early, &calendar()?);
     assert_eq!(rt; energy.peak_load, 20);
     assert_eq!(rt; energy.other, 10);
     Ok(())
@@ -159,11 +162,8 @@ fn a_part_is_summed_in_one_pass(rt: HostRuntime) -> Result<(), Fail> {
     write_record(&mut records, 54, value(20, 9));
     write_record(&mut records, 55, value(-5, -8));
     let early = Span { first: 53, end: 56 };
-    let Some(year) = Year::new(2022) else {
-        return Err(Fail::new("2022 is served"));
-    };
     assert_eq!(rt;
-        part_totals(&records, early, &Calendar::new(year)),
+        part_totals(&records, early, &calendar()?),
         Totals {
             peak_load_kwh: 20,
             other_kwh: 10,
