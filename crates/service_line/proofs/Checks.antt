@@ -1,6 +1,14 @@
 -- The check: it closes a body to a multiple of 256, and only it does.
 use Rattle.std.proofs.Common.{◌≡◌, ℕ, ◌+◌, ◌%◌, ◌<◌, List, [], ◌∷◌, ◌++◌, ap, arith}
+use Rattle.std.specs.List.{fold}
 use Rattle.service_line.specs.Formats.{check_of, frame_of, sum_of}
+
+-- a sum that is kept below 256 at each byte
+pub wrapped_sum : (start : ℕ) (bs : List ℕ) → start < 256 → fold (λ sum b. (sum + b) % 256) start bs ≡ (start + sum_of bs) % 256
+wrapped_sum start [] small = omega arith
+wrapped_sum start (b ∷ bs) small =
+    let rest : fold (λ sum b. (sum + b) % 256) ((start + b) % 256) bs ≡ ((start + b) % 256 + sum_of bs) % 256 = wrapped_sum ((start + b) % 256) bs (omega arith) in
+    omega arith
 
 sum_push : (bs : List ℕ) (b : ℕ) → sum_of (bs ++ b ∷ []) ≡ sum_of bs + b
 sum_push [] b = omega arith

@@ -1,5 +1,4 @@
 pub mod Digits
-pub mod Asks
 pub mod Texts
 pub mod Amounts
 pub mod Fields

@@ -1,10 +1,9 @@
--- What the private parts of the line layer answer: a digit, a byte, and the bytes that they fill.
-use Rattle.std.specs.Prelude.{◌≡◌, ℕ, ◌+◌, ◌*◌, ◌≤◌, List, length, take, Ok, Err, Result}
+-- What the private parts of the line layer answer: a digit and a byte.
+use Rattle.std.specs.Prelude.{ℕ, ◌+◌, ◌*◌, Ok, Err, Result}
 use Rattle.std.specs.Option.{ok_or}
 use Rattle.refusals.specs.declared.line.LineRefusal.{LineRefusal}
 use Rattle.refusals.specs.declared.line.LineRefusal.TheVariants.{Digit}
 use Rattle.service_line.specs.Hex.{value_of}
-use Rattle.service_line.specs.declared.line.FrameBytes.{FrameBytes}
 
 -- the value of the character c, which stands in this column
 abbrev pub digit_at : ℕ → ℕ → Result ℕ LineRefusal
@@ -18,12 +17,3 @@ both (Ok h) (Ok l) = Ok (h * 16 + l)
 -- the byte of two characters, of which the first stands in this column
 unfoldable pub byte_at : ℕ → ℕ → ℕ → Result ℕ LineRefusal
 byte_at column high low = both (digit_at column high) (digit_at (column + 1) low)
-
--- the bytes that are filled in
-abbrev pub held : Result FrameBytes LineRefusal → Result (List ℕ) LineRefusal
-held (Ok frame) = Ok (take frame.len frame.all)
-held (Err e) = Err e
-
-abbrev pub Holds : Result FrameBytes LineRefusal → Type 0
-Holds (Ok frame) = (frame.len ≤ 32) × (length frame.all ≡ 32)
-Holds (Err e) = Unit {0}

@@ -10,11 +10,7 @@ use refusals::FrameRefusal;
 pub(crate) fn sum(bytes: &[u8]) -> u8
     ensures sum { result ≡ sum_of bytes.now % 256 }
 {
-    let mut all: u8 = 0;
-    for b in bytes {
-        all = all.wrapping_add(*b);
-    }
-    all
+    bytes.iter().fold(0u8, |sum, byte| sum.wrapping_add(*byte))
 }
 
 // The check of a body: what brings its sum to a multiple of 256.
@@ -31,6 +27,7 @@ fn fields(bytes: &[u8]) -> Result<Request, FrameRefusal>
 {
     match bytes {
         [] => Err(FrameRefusal::Kind { kind: 0 }),
+        // 0x01 and 0x02 have the same fields: an arm for both, which then tells them apart, is longer.
         [0x01, h1, h0, a1, a0, r1, r0, _] => Ok(Request::Post {
             hour: u16::from_be_bytes([*h1, *h0]),
             active: i16::from_be_bytes([*a1, *a0]),

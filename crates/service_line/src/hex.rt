@@ -3,12 +3,12 @@ ghost use Rattle.std.specs.Prelude.{◌≡◌, ◌<◌};
 ghost use Rattle.service_line.specs.Hex.{digit_of, value_of};
 
 // The value of a digit.
-pub(crate) fn digit_value(c: char) -> Option<u8>
+pub(crate) fn digit_value(c: u8) -> Option<u8>
     ensures value { result ≡ value_of c }
 {
     match c {
-        '0'..='9' => Some((c as u32 - '0' as u32) as u8),
-        'A'..='F' => Some((c as u32 - 'A' as u32 + 10) as u8),
+        b'0'..=b'9' => Some(c - b'0'),
+        b'A'..=b'F' => Some(c - b'A' + 10),
         _ => None,
     }
 }

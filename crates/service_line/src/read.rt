@@ -13,7 +13,8 @@ pub fn read_line(line: &[u8]) -> Result<Request, Refusal>
     ensures answers { result ≡ reading line.now }
     ensures written_back { IfOk result (λ request. request_line request ≡ line.now) }
 {
-    let frame = unhex(line)?;
-    let request = decode(&frame.all[0..frame.len])?;
+    let mut buffer = [0u8; 32];
+    let frame = unhex(line, &mut buffer)?;
+    let request = decode(frame)?;
     Ok(request)
 }

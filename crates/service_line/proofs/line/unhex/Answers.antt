@@ -1,49 +1,28 @@
--- `unhex` answers what the line carries.
-use Rattle.std.proofs.Common.{◌≡◌, ℕ, ◌+◌, ◌*◌, ◌/◌, ◌<◌, ◌≤◌, length, Err, ap, ◌∙◌, arith}
-use Rattle.std.proofs.lemmas.List.{length-set}
+-- `unhex` reads a byte a turn, or refuses the line for the first stranger.
+use Rattle.std.proofs.Common.{ℕ, ◌/◌, ◌<◌, List, length, take, Err, sym, ap, ◌∙◌, arith}
+use Rattle.std.proofs.lemmas.List.{length-set, take_more_set}
 use Rattle.std.proofs.lemmas.Result.{err_from_is_err_and}
-use Rattle.service_line.specs.Parts.{held}
-use Rattle.service_line.proofs.Digits.{a_stranger, all_read, fitting, no_stranger, one_byte_more, sized}
+use Rattle.service_line.proofs.Digits.{fitting, sized, turn_read, turn_refused}
 use Rattle.service_line.proofs.line.unhex.Goals as goal
 
-pub returns-in_err-b : goal.returns-in_err-b
-returns-in_err-b c =
+pub returns-in_err-buffer-clause-bytes : goal.returns-in_err-buffer-clause-bytes
+returns-in_err-buffer-clause-bytes c =
     let text = c.args.line.now in
     let i : ℕ = c.loop-i.i in
+    let more : i < length text / 2 = omega arith in
     let p = err_from_is_err_and c.from_residual.result c.from_residual.ensures.1 in
-    let lt : 2 * i + 1 < length text = omega arith in
-    record {
-      bytes = ap held p.1 ∙ ap Err p.2
-          ∙ a_stranger text (2 * i + 1) (2 * i) c.loop-i.invariant.0 lt c.in_err-b.field-0.0 c.in_err-b.ensures.value
-          ∙ fitting text c.if-ill_sized.ensures.sized;
-      fits = rw p.1 tt;
-    }
+    let refused = turn_refused text c.as_chunks.result.0.now i c.as_chunks.ensures.front more (take i c.loop-i.buffer) c.in_err-buffer.field-0.0 c.in_err-buffer.ensures.value in
+    rw p.1 (sym (fitting text c.if-ill_sized.ensures.sized) ∙ sym c.loop-i.invariant.0 ∙ refused ∙ ap Err (sym p.2))
 
 pub loop-i-preserved : goal.loop-i-preserved
 loop-i-preserved c =
     let text = c.args.line.now in
     let i : ℕ = c.loop-i.i in
+    let buffer : List ℕ = c.loop-i.buffer in
     let size = sized (length text) c.if-ill_sized.ensures.sized in
-    let lt : 2 * i + 1 < length text = omega arith in
-    let small : i < length c.loop-i.all = omega arith in
-    let column : 2 * i + 1 + 2 ≡ 2 * (i + 1) + 1 = omega arith in
-    let place : 2 * i + 2 ≡ 2 * (i + 1) = omega arith in
-    let b = c.in_ok-b.b in
-    let e = c.in_ok-b.ensures.value in (
-      no_stranger text (2 * i + 1) (2 * i) c.loop-i.invariant.0 lt b (2 * (i + 1) + 1) (2 * (i + 1)) e column place,
-      one_byte_more text (2 * i + 1) (2 * i) c.loop-i.invariant.0 lt c.loop-i.all i b (2 * (i + 1)) c.loop-i.invariant.1 e small place,
-      simp length-set c.loop-i.invariant.2,
+    let more : i < length text / 2 = omega arith in
+    let small : i < length buffer = omega arith in
+    let b = c.in_ok-buffer.field-0 in (
+      rw (take_more_set buffer i b small) (turn_read text c.as_chunks.result.0.now i c.as_chunks.ensures.front more (take i buffer) b c.in_ok-buffer.ensures.value) ∙ c.loop-i.invariant.0,
+      simp length-set c.loop-i.invariant.1,
     )
-
-pub returns : goal.returns
-returns c =
-    let text = c.args.line.now in
-    let i : ℕ = c.loop-i.i in
-    let size = sized (length text) c.if-ill_sized.ensures.sized in
-    let past : length text ≤ 2 * i = omega arith in
-    let end : length text / 2 ≡ i = omega arith in
-    record {
-      bytes = all_read text c.loop-i.all i (2 * i) (2 * i + 1) (length text / 2) c.loop-i.invariant.0 c.loop-i.invariant.1 past end
-          ∙ fitting text c.if-ill_sized.ensures.sized;
-      fits = (omega arith, c.loop-i.invariant.2);
-    }
