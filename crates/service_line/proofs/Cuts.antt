@@ -1,6 +1,6 @@
 -- A line that comes in byte by byte: its first 65 bytes are kept, and tell what it asks.
-use Rattle.std.proofs.Common.{◌≡◌, ℕ, ◌+◌, ◌<◌, ◌≤◌, min, true, List, [], ◌∷◌, ◌++◌, length, take, set, Err, sym, ap, ◌∙◌, inl, inr, arith}
-use Rattle.std.proofs.lemmas.List.{length-append, length-take, length-take-le, take_all, take-append-le, take_more_set}
+use Rattle.std.proofs.Common.{◌≡◌, ℕ, ◌+◌, ◌<◌, ◌≤◌, true, List, [], ◌∷◌, ◌++◌, length, take, set, Err, sym, ap, ◌∙◌, inl, inr, arith}
+use Rattle.std.proofs.lemmas.List.{length-append, length-take-le, take_all, take-append-le, take_more_set}
 use Rattle.std.proofs.lemmas.Bool.{cases_lt, cond-true}
 use Rattle.std.proofs.lemmas.Bool.Decides.{nat_tests}
 use Rattle.refusals.specs.declared.line.LineRefusal.TheVariants.{Length}
@@ -24,23 +24,29 @@ cut_alike text = elim (cases_lt 64 (length text)) [
   | inr le ↦ ap reading (take_all 65 text (omega arith))
 ]
 
-module _ (len b : ℕ) (bytes text : List ℕ) (room : len ≤ length bytes) (keeps : Keeps len bytes text) where
-  kept : len ≡ min 65 (length text)
-  kept = sym (length-take-le len bytes room) ∙ ap length keeps ∙ length-take 65 text
-
-  -- one byte more has a place
-  pub keeps_more : len < 65 → len < length bytes → Keeps (len + 1) (set bytes len b) (text ++ b ∷ [])
-  keeps_more lt place =
-      let k = kept in
-      let all : length text ≤ 65 = omega arith in
-      let grown : length (text ++ b ∷ []) ≤ 65 = simp length-append (omega arith) in
-      take_more_set bytes len b place
-      ∙ ap (λ (front : List ℕ). front ++ b ∷ []) (keeps ∙ take_all 65 text all)
-      ∙ sym (take_all 65 (text ++ b ∷ []) grown)
-
-  -- and one that comes later changes nothing
-  pub keeps_full : 65 ≤ len → Keeps len bytes (text ++ b ∷ [])
-  keeps_full full =
-      let k = kept in
+-- one byte more, of a line whose front is kept
+pub keeps_more : (kept text : List ℕ) (b : ℕ) → Keeps kept text → Keeps (take 65 (kept ++ b ∷ [])) (text ++ b ∷ [])
+keeps_more kept text b keeps = elim (cases_lt 65 (length text)) [
+  | inl lt ↦
       let many : 65 ≤ length text = omega arith in
-      keeps ∙ sym (take-append-le 65 text (b ∷ []) many)
+      let full : 65 ≤ length kept = rw keeps (simp length-take-le (omega arith)) in
+      take-append-le 65 kept (b ∷ []) full
+      ∙ take_all 65 kept (rw keeps (simp length-take-le (omega arith)))
+      ∙ keeps
+      ∙ sym (take-append-le 65 text (b ∷ []) many)
+  | inr le ↦ ap (λ (front : List ℕ). take 65 (front ++ b ∷ [])) (keeps ∙ take_all 65 text le)
+]
+
+module _ (bytes kept : List ℕ) (len b : ℕ) (size : length bytes ≡ 65) (within : len ≤ length bytes) (is : take len bytes ≡ kept) where
+  many : length kept ≡ len
+  many = ap length (sym is) ∙ length-take-le len bytes within
+
+  -- a byte that has a place
+  pub placed : len < 65 → take (len + 1) (set bytes len b) ≡ take 65 (kept ++ b ∷ [])
+  placed lt =
+      let fits : length (kept ++ b ∷ []) ≤ 65 = simp length-append (omega (arith, many)) in
+      take_more_set bytes len b (omega arith) ∙ ap (λ (front : List ℕ). front ++ b ∷ []) is ∙ sym (take_all 65 (kept ++ b ∷ []) fits)
+
+  -- and one that comes later
+  pub unplaced : 65 ≤ len → kept ≡ take 65 (kept ++ b ∷ [])
+  unplaced full = sym (take-append-le 65 kept (b ∷ []) (omega (arith, many)) ∙ take_all 65 kept (omega (arith, many)))
