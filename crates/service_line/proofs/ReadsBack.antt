@@ -1,8 +1,10 @@
 -- A request that is written reads back as itself.
-use Rattle.std.proofs.Common.{◌≡◌, Bool, false, cond, length, Ok, Err, refl, ap, ◌∙◌, ap₂, arith}
+use Rattle.std.proofs.Common.{◌≡◌, ℕ, Bool, false, cond, List, length, take, drop, sym, Ok, Err, refl, ap, ◌∙◌, ap₂, arith}
+use Rattle.std.proofs.lemmas.List.{take_at}
 use Rattle.refusals.specs.declared.line.LineRefusal.TheVariants.{Length}
-use Rattle.service_line.specs.Formats.{Fitting, frame_of, request_body, request_line}
+use Rattle.service_line.specs.Formats.{Fitting, frame_of, over, request_body, request_line}
 use Rattle.service_line.specs.Frames.{asked, decoded, if_checked}
+use Rattle.service_line.specs.Hex.{text_of}
 use Rattle.service_line.specs.Lines.{bytes_of, carried, first_stranger, ill_sized, unless_stranger}
 use Rattle.service_line.specs.Reading.{by_frame, by_line, reading}
 use Rattle.service_line.specs.declared.request.Request.{Request}
@@ -47,5 +49,14 @@ line_read q f =
     ap (λ (b : Bool). cond b (Err Length) (unless_stranger (first_stranger 1 (request_line q)) (bytes_of (request_line q)))) (sized q)
     ∙ ap₂ unless_stranger (no_stranger_in 1 frame (small q f)) (bytes_read frame (small q f))
 
-pub reads_back : (q : Request) → Fitting q → reading (request_line q) ≡ Ok q
+reads_back : (q : Request) → Fitting q → reading (request_line q) ≡ Ok q
 reads_back q f = ap by_line (line_read q f) ∙ ap by_frame (frame_read q f)
+
+-- the same, of the front of a buffer that the line is written over
+pub front_reads_back : (q : Request) → Fitting q → (body before after : List ℕ) (n : ℕ) → body ≡ request_body q
+    → n ≡ length (text_of (frame_of body)) → after ≡ over (text_of (frame_of body)) before → reading (take n after) ≡ Ok q
+front_reads_back q f body before after n is len text =
+    let line : text_of (frame_of body) ≡ request_line q = ap (λ (b : List ℕ). text_of (frame_of b)) is in
+    ap (λ (l : List ℕ). reading (take n l)) text
+    ∙ ap reading (take_at (text_of (frame_of body)) (drop (length (text_of (frame_of body))) before) n (sym len) ∙ line)
+    ∙ reads_back q f

@@ -1,6 +1,6 @@
 // Writing: the line of a request and of an answer, into memory that the caller lends.
 ghost use Rattle.std.specs.Prelude.{◌≡◌, ◌+◌, ◌*◌, ◌/◌, ◌%◌, ◌<◌, ◌≤◌, ◌∷◌, ◌++◌, length, take, Ok, slice_set};
-ghost use Rattle.service_line.specs.Formats.{answer_body, answer_line, Fitting, field2, frame_of, over, request_line, signed8, signed8s, sum_of};
+ghost use Rattle.service_line.specs.Formats.{answer_body, answer_line, field2, frame_of, over, request_line, signed2, signed8, signed8s, sum_of};
 ghost use Rattle.service_line.specs.Hex.{digit_of, text_of};
 ghost use Rattle.service_line.specs.Reading.{reading};
 
@@ -35,7 +35,6 @@ fn put_bytes(bytes: &[u8], line: &mut LineBuffer)
 fn put_frame(body: &[u8], line: &mut LineBuffer) -> usize
     requires { length body.now ≤ 74 }
     ensures len { result ≡ length (text_of (frame_of body.now)) }
-    ensures room { result ≤ 150 }
     ensures text { line.new ≡ over (text_of (frame_of body.now)) line.old }
 {
     put_bytes(body, line);
@@ -43,34 +42,34 @@ fn put_frame(body: &[u8], line: &mut LineBuffer) -> usize
     2 * body.len() + 2
 }
 
-// Each request's body, as its format has it.
-fn put_request(request: Request, line: &mut LineBuffer) -> usize
+// The body of a first value for an hour, or of a new one.
+fn hour_body(kind: u8, hour: u16, active: i16, reactive: i16) -> [u8; 7]
+    ensures body { result ≡ kind ∷ (field2 hour ++ signed2 active ++ signed2 reactive) }
+{
+    let [h1, h0] = hour.to_be_bytes();
+    let [a1, a0] = active.to_be_bytes();
+    let [r1, r0] = reactive.to_be_bytes();
+    [kind, h1, h0, a1, a0, r1, r0]
+}
+
+// Writes the line of a request over the front of the buffer, and answers its length.
+pub fn write_request(request: Request, line: &mut LineBuffer) -> usize
     ensures len { result ≡ length (request_line request) }
     ensures room { result ≤ 150 }
     ensures text { line.new ≡ over (request_line request) line.old }
-    ensures fits { Fitting request }
+    ensures reads_back { reading (take result line.new) ≡ Ok request }
 {
     match request {
         Request::Post {
             hour,
             active,
             reactive,
-        } => {
-            let [h1, h0] = hour.to_be_bytes();
-            let [a1, a0] = active.to_be_bytes();
-            let [r1, r0] = reactive.to_be_bytes();
-            put_frame(&[0x01, h1, h0, a1, a0, r1, r0], line)
-        }
+        } => put_frame(&hour_body(0x01, hour, active, reactive), line),
         Request::Amend {
             hour,
             active,
             reactive,
-        } => {
-            let [h1, h0] = hour.to_be_bytes();
-            let [a1, a0] = active.to_be_bytes();
-            let [r1, r0] = reactive.to_be_bytes();
-            put_frame(&[0x02, h1, h0, a1, a0, r1, r0], line)
-        }
+        } => put_frame(&hour_body(0x02, hour, active, reactive), line),
         Request::Choose {
             choice,
             power,
@@ -95,16 +94,6 @@ fn put_request(request: Request, line: &mut LineBuffer) -> usize
     }
 }
 
-// Writes the line of a request over the front of the buffer, and answers its length.
-pub fn write_request(request: Request, line: &mut LineBuffer) -> usize
-    ensures len { result ≡ length (request_line request) }
-    ensures room { result ≤ 150 }
-    ensures text { line.new ≡ over (request_line request) line.old }
-    ensures reads_back { reading (take result line.new) ≡ Ok request }
-{
-    put_request(request, line)
-}
-
 // The body of an advice: kind, choice, kW and charge.
 fn advice_body(choice: u8, power: u16, charge: i64) -> [u8; 12]
     ensures body { result ≡ 0x12 ∷ choice ∷ (field2 power ++ signed8 charge) }
@@ -121,17 +110,16 @@ fn invoice_body(number: u8, amounts: [i64; 9]) -> [u8; 74]
     let mut body = [0u8; 74];
     body[0] = 0x13;
     body[1] = number;
-    for i in 0..9 {
-        body[2 + 8 * i..10 + 8 * i].copy_from_slice(&amounts[i].to_be_bytes());
-    }
+    body[2..].copy_from_slice(amounts.map(i64::to_be_bytes).as_flattened());
     body
 }
 
-// Each answer's body, as its format has it.
-fn put_answer(answer: Answer, line: &mut LineBuffer) -> usize
+// Writes the line of an answer over the front of the buffer, and answers its length.
+pub fn write_answer(answer: Answer, line: &mut LineBuffer) -> usize
     ensures len { result ≡ length (answer_line answer) }
     ensures room { result ≤ 150 }
     ensures text { line.new ≡ over (answer_line answer) line.old }
+    ensures checked { sum_of (frame_of (answer_body answer)) % 256 ≡ 0 }
 {
     match answer {
         Answer::Accepted => put_frame(&[0x10], line),
@@ -149,14 +137,4 @@ fn put_answer(answer: Answer, line: &mut LineBuffer) -> usize
         } => put_frame(&advice_body(choice, power, charge), line),
         Answer::Invoice { number, amounts } => put_frame(&invoice_body(number, amounts), line),
     }
-}
-
-// Writes the line of an answer over the front of the buffer, and answers its length.
-pub fn write_answer(answer: Answer, line: &mut LineBuffer) -> usize
-    ensures len { result ≡ length (answer_line answer) }
-    ensures room { result ≤ 150 }
-    ensures text { line.new ≡ over (answer_line answer) line.old }
-    ensures checked { sum_of (frame_of (answer_body answer)) % 256 ≡ 0 }
-{
-    put_answer(answer, line)
 }

@@ -13,7 +13,6 @@ returns c =
     let room : 2 * n + 1 < length c.args.line.now = omega arith in
     record {
       len = length_frame body;
-      room = omega arith;
       text = c.put_byte.ensures.digits
           ∙ ap (λ (l : List ℕ). set (set l (2 * n) (digit_of (x / 16))) (2 * n + 1) (digit_of (x % 16))) c.put_bytes.ensures.text
           ∙ push_over body c.args.line.now x n refl room
