@@ -2,7 +2,7 @@
 ghost use Rattle.std.specs.Prelude.{◌≡◌, ◌<◌};
 ghost use Rattle.service_line.specs.Hex.{digit_of, value_of};
 
-// The value of a digit.
+// The value of a digit; `char::to_digit` takes lower case too.
 pub(crate) fn digit_value(c: u8) -> Option<u8>
     ensures value { result ≡ value_of c }
 {
@@ -13,7 +13,7 @@ pub(crate) fn digit_value(c: u8) -> Option<u8>
     }
 }
 
-// The digit of a value below 16.
+// The digit of a value below 16; `char::from_digit` gives lower case.
 pub(crate) fn digit(value: u8) -> u8
     requires { value < 16 }
     ensures digit { result ≡ digit_of value }

@@ -22,6 +22,7 @@ fn put_byte(byte: u8, line: &mut LineBuffer, at: usize)
 }
 
 // Writes the text of bytes over the front of the line.
+// Places are counted: the proof did not close over `chunks_exact_mut`, of which std does not say what the slice ends as.
 fn put_bytes(bytes: &[u8], line: &mut LineBuffer)
     requires { length bytes.now ≤ 75 }
     ensures text { line.new ≡ over (text_of bytes.now) line.old }
@@ -53,6 +54,7 @@ fn hour_body(kind: u8, hour: u16, active: i16, reactive: i16) -> [u8; 7]
 }
 
 // Writes the line of a request over the front of the buffer, and answers its length.
+// No heap in the unit: the caller lends the memory, and cuts the line from it.
 pub fn write_request(request: Request, line: &mut LineBuffer) -> usize
     ensures len { result ≡ length (request_line request) }
     ensures room { result ≤ 150 }
@@ -115,6 +117,7 @@ fn invoice_body(number: u8, amounts: [i64; 9]) -> [u8; 74]
 }
 
 // Writes the line of an answer over the front of the buffer, and answers its length.
+// No heap in the unit: the caller lends the memory, and cuts the line from it.
 pub fn write_answer(answer: Answer, line: &mut LineBuffer) -> usize
     ensures len { result ≡ length (answer_line answer) }
     ensures room { result ≤ 150 }

@@ -1,8 +1,6 @@
 -- `put_bytes` writes one byte a turn.
-use Rattle.std.proofs.Common.{ℕ, ◌+◌, ◌*◌, ◌/◌, ◌%◌, ◌<◌, ◌≤◌, List, length, get_or, set, ap, ◌∙◌, arith}
-use Rattle.std.proofs.lemmas.List.{take_all}
-use Rattle.service_line.specs.Formats.{over}
-use Rattle.service_line.specs.Hex.{digit_of, text_of}
+use Rattle.std.proofs.Common.{ℕ, ◌+◌, ◌*◌, ◌/◌, ◌%◌, ◌<◌, List, length, get_or, set, ap, ◌∙◌, arith}
+use Rattle.service_line.specs.Hex.{digit_of}
 use Rattle.service_line.proofs.Texts.{next_over}
 use Rattle.service_line.proofs.write.put_bytes.Goals as goal
 
@@ -15,9 +13,3 @@ loop-i-preserved c =
     c.put_byte.ensures.digits
     ∙ ap (λ (l : List ℕ). set (set l (2 * i) (digit_of (get_or bs i 0 / 16))) (2 * i + 1) (digit_of (get_or bs i 0 % 16))) c.loop-i.invariant
     ∙ next_over bs c.args.line.now i lt room
-
-pub returns : goal.returns
-returns c =
-    let bs = c.args.bytes.now in
-    let past : length bs ≤ c.loop-i.i = omega arith in
-    record { text = c.loop-i.invariant ∙ ap (λ (l : List ℕ). over (text_of l) c.args.line.now) (take_all c.loop-i.i bs past) }
