@@ -8,7 +8,7 @@ use tariff::{Tariff, advise};
 
 fn show_choice<T: Tariff>(rt: &impl Print, tariff: &T, choice: u8, kw: u16) -> io::Result<()> {
     let first = kw.saturating_sub(1);
-    let last = kw.saturating_add(1).min(T::TOP.get());
+    let last = kw.saturating_add(1).min(T::TOP);
     print!(rt; "  choice {choice}:")?;
     for near in first..=last {
         let charge = tariff.charge(choice, near);
@@ -21,7 +21,7 @@ fn show<T: Tariff>(rt: &impl Print, name: &str, tariff: &T) -> io::Result<()> {
     let advice = advise(tariff);
     let (best, kw, charge) = (advice.choice, advice.kw, advice.charge);
     println!(rt; "{name}: choice {best}, {kw} kW, {charge}")?;
-    for choice in 0..T::CHOICES.get() {
+    for choice in 0..T::CHOICES {
         if tariff.permits(choice) {
             show_choice(rt, tariff, choice, kw)?;
         }

@@ -27,11 +27,11 @@ fn better(best: Option<Advice>, next: Advice) -> Advice
 // Advice among the kW from `low` to `high`.
 fn advised<T: Tariff>(tariff: &T, low: u16, high: u16) -> Advice
     requires ordered { low ≤ high }
-    requires within { high ≤ T.Limits.Limits.top }
-    ensures rule { Advised (T.permitted tariff.now) (charge_of (T.amount tariff.now)) low high T.Limits.Limits.choices result }
+    requires within { high ≤ T.TOP }
+    ensures rule { Advised (T.permitted tariff.now) (charge_of (T.amount tariff.now)) low high T.CHOICES result }
 {
     let mut best = None;
-    for choice in 0..T::CHOICES.get() {
+    for choice in 0..T::CHOICES {
         if tariff.permits(choice) {
             let kw = settled(tariff, choice, low, high);
             let charge = charge_at(tariff, choice, kw);
@@ -46,12 +46,12 @@ fn advised<T: Tariff>(tariff: &T, low: u16, high: u16) -> Advice
 
 // The permitted choice that costs least at its advised kW, the lowest number on a tie, with that kW and its charge.
 pub fn advise<T: Tariff>(tariff: &T) -> Advice
-    ensures rule { Advised (T.permitted tariff.now) (charge_of (T.amount tariff.now)) 0 T.Limits.Limits.top T.Limits.Limits.choices result }
-    ensures only { (a : Advice) → Advised (T.permitted tariff.now) (charge_of (T.amount tariff.now)) 0 T.Limits.Limits.top T.Limits.Limits.choices a → a ≡ result }
-    ensures computed { result ≡ advice_of (T.permitted tariff.now) (charge_of (T.amount tariff.now)) T.Limits.Limits.top T.Limits.Limits.choices }
+    ensures rule { Advised (T.permitted tariff.now) (charge_of (T.amount tariff.now)) 0 T.TOP T.CHOICES result }
+    ensures only { (a : Advice) → Advised (T.permitted tariff.now) (charge_of (T.amount tariff.now)) 0 T.TOP T.CHOICES a → a ≡ result }
+    ensures computed { result ≡ advice_of (T.permitted tariff.now) (charge_of (T.amount tariff.now)) T.TOP T.CHOICES }
     ensures told { result.charge ≡ charge_of (T.amount tariff.now) result.choice result.kw }
     ensures bounded { Bounded result.charge }
-    ensures cheapest { Cheapest (T.permitted tariff.now) (charge_of (T.amount tariff.now)) 0 T.Limits.Limits.top T.Limits.Limits.choices result }
+    ensures cheapest { Cheapest (T.permitted tariff.now) (charge_of (T.amount tariff.now)) 0 T.TOP T.CHOICES result }
 {
-    advised(tariff, 0, T::TOP.get())
+    advised(tariff, 0, T::TOP)
 }

@@ -11,11 +11,11 @@ returns g c =
     let t = c.args.tariff.now in
     let permitted : ℕ → Bool = g.T.Tariff.permitted t in
     let K : ℕ → ℕ → ℤ = charge_of (g.T.Tariff.amount t) in
-    let top : ℕ = g.T.Limits.Limits.top in
-    let n : ℕ = g.T.Limits.Limits.choices in
+    let top : ℕ = g.T.Tariff.TOP in
+    let n : ℕ = g.T.Tariff.CHOICES in
     let r : Advice = c.advised.result in
     let one = g.met.T.Tariff.some t in
-    let a : Advised permitted K 0 top n r = subst (λ (u : ℕ). Advised permitted K 0 u n r) c.get.ensures.number c.advised.ensures.rule in
+    let a : Advised permitted K 0 top n r = subst (λ (u : ℕ). Advised permitted K 0 u n r) c.TOP.ensures c.advised.ensures.rule in
     let least : Cheapest permitted K 0 top n r = cheapest permitted K 0 top n top r (omega arith) (omega arith) (g.met.T.Tariff.convex t) a in
     record {
       rule = a;

@@ -14,7 +14,7 @@ loop-choice-preserved g c =
     let K : ℕ → ℕ → ℤ = charge_of (g.T.Tariff.amount t) in
     let low : ℕ = c.args.low in
     let high : ℕ = c.args.high in
-    let n : ℕ = g.T.Limits.Limits.choices in
+    let n : ℕ = g.T.Tariff.CHOICES in
     let k : ℕ = c.loop-choice.choice in
     elim c.if-permits.branch [
       | then-permits w ↦
