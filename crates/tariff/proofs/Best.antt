@@ -2,6 +2,7 @@
 -- cheaper: over any permitted choices and any charge. Assumes nothing.
 use Rattle.std.proofs.Common.{◌≡◌, ℕ, zero, suc, ◌+◌, ◌<◌, ◌≤◌, Bool, true, false, cond, ℤ, ◌≤ℤ◌, Some, None, Option, sym, refl, ap, ◌∙◌, subst, inl, inr, ⊎_elim, add-one, arith}
 use lib.Signed.{le_z}
+use Rattle.std.specs.Option.{IsSome}
 use Rattle.std.proofs.lemmas.Int.{ints}
 use Rattle.std.proofs.lemmas.Bool.{cases_lt, cases_order, cases_Bool, both_ways, cond-true, cond-false}
 use Rattle.tariff.specs.declared.advice.Advice.{Advice}
@@ -27,6 +28,11 @@ module _ (permitted : ℕ → Bool) (K : ℕ → ℕ → ℤ) (low high : ℕ) w
   abbrev pub Best : ℕ → Option Advice → Type 0
   Best n None = (c : ℕ) → c < n → permitted c ≡ true → ⊥
   Best n (Some a) = Advised permitted K low high n a
+
+  -- where one of them is permitted, there is a best
+  pub best_some : (n : ℕ) (o : Option Advice) → Best n o → (c : ℕ) → c < n → permitted c ≡ true → IsSome o
+  best_some n None none c lt p = absurd (none c lt p)
+  best_some n (Some a) h c lt p = refl
 
   -- what holds of the permitted choices below n, and of n, holds below n + 1
   one_more : (P : ℕ → Type 0) (n : ℕ) → ((c : ℕ) → c < n → permitted c ≡ true → P c) → (permitted n ≡ true → P n) → (c : ℕ) → c < n + 1 → permitted c ≡ true → P c

@@ -4,7 +4,7 @@ ghost use Rattle.tariff.specs.Charges.{charge_of, Bounded};
 ghost use Rattle.tariff.specs.Advised.{Advised, Cheapest, better_of, advice_of};
 
 use crate::meaning::Tariff;
-use crate::search::{charge_at, settled};
+use crate::search::Permitted;
 
 // A choice and a kW, and what the year costs there.
 #[derive(Clone, Copy, PartialEq, Eq, Debug)]
@@ -32,16 +32,11 @@ fn advised<T: Tariff>(tariff: &T, low: u16, high: u16) -> Advice
 {
     let mut best = None;
     for choice in 0..T::CHOICES {
-        if tariff.permits(choice) {
-            let kw = settled(tariff, choice, low, high);
-            let charge = charge_at(tariff, choice, kw);
-            best = Some(better(best, Advice { choice, kw, charge }));
+        if let Some(permitted) = Permitted::new(tariff, choice) {
+            best = Some(better(best, permitted.advice(low, high)));
         }
     }
-    match best {
-        Some(found) => found,
-        None => unreachable(),
-    }
+    best.unwrap()
 }
 
 // The permitted choice that costs least at its advised kW, the lowest number on a tie, with that kW and its charge.
