@@ -25,21 +25,16 @@ module _ (permitted : ℕ → Bool) (K : ℕ → ℕ → ℤ) (low high : ℕ) w
   best_skip n p = rw add-one (cond-false (permitted n) _ _ p)
 
   -- what is best of the choices below n, or that none of them is permitted
-  abbrev pub Best : ℕ → Option Advice → Type 0
+  abbrev Best : ℕ → Option Advice → Type 0
   Best n None = (c : ℕ) → c < n → permitted c ≡ true → ⊥
   Best n (Some a) = Advised permitted K low high n a
-
-  -- where one of them is permitted, there is a best
-  pub best_some : (n : ℕ) (o : Option Advice) → Best n o → (c : ℕ) → c < n → permitted c ≡ true → IsSome o
-  best_some n None none c lt p = absurd (none c lt p)
-  best_some n (Some a) h c lt p = refl
 
   -- what holds of the permitted choices below n, and of n, holds below n + 1
   one_more : (P : ℕ → Type 0) (n : ℕ) → ((c : ℕ) → c < n → permitted c ≡ true → P c) → (permitted n ≡ true → P n) → (c : ℕ) → c < n + 1 → permitted c ≡ true → P c
   one_more P n below here c h p =
       ⊎_elim (λ lt. below c lt p) (λ ge. let same : n ≡ c = omega arith in subst P same (here (rw same p))) (cases_lt c n)
 
-  pub skipped : (n : ℕ) (o : Option Advice) → permitted n ≡ false → Best n o → Best (n + 1) o
+  skipped : (n : ℕ) (o : Option Advice) → permitted n ≡ false → Best n o → Best (n + 1) o
   skipped n None p h = one_more (λ c. ⊥) n h (both_ways (permitted n) p)
   skipped n (Some a) p h = record {
     below = omega arith;
@@ -50,45 +45,45 @@ module _ (permitted : ℕ → Bool) (K : ℕ → ℕ → ℤ) (low high : ℕ) w
     lowest = h.lowest;
   }
 
-  pub taken : (n kw : ℕ) (charge : ℤ) (o : Option Advice) → permitted n ≡ true → kw ≡ first_settled (K n) low high → charge ≡ K n kw → Best n o → Advised permitted K low high (n + 1) (better_of o (record { choice = n; kw = kw; charge = charge }))
-  taken n kw charge o p settles told = by o
+  taken : (n : ℕ) (o : Option Advice) → permitted n ≡ true → Best n o → Advised permitted K low high (n + 1) (better_of o (settled_advice K low high n))
+  taken n o p = by o
     where
-      here : charge ≡ (settled_advice K low high n).charge
-      here = told ∙ ap (K n) settles
+      here : Advice
+      here = settled_advice K low high n
 
-      by : (o : Option Advice) → Best n o → Advised permitted K low high (n + 1) (better_of o (record { choice = n; kw = kw; charge = charge }))
+      by : (o : Option Advice) → Best n o → Advised permitted K low high (n + 1) (better_of o here)
       by None h = record {
         below = omega arith;
         allowed = p;
-        settles = settles;
-        told = told;
-        least = one_more (λ c. charge ≤ℤ (settled_advice K low high c).charge) n (λ c lt q. absurd (h c lt q)) (λ q. omega (arith, ints, here));
+        settles = refl;
+        told = refl;
+        least = one_more (λ c. here.charge ≤ℤ (settled_advice K low high c).charge) n (λ c lt q. absurd (h c lt q)) (λ q. omega (arith, ints));
         lowest = λ c lt q. absurd (h c lt q);
       }
-      by (Some best) h = test (le_z best.charge charge) refl
+      by (Some best) h = test (le_z best.charge here.charge) refl
         where
-          test : (b : Bool) → le_z best.charge charge ≡ b → Advised permitted K low high (n + 1) (cond b best (record { choice = n; kw = kw; charge = charge }))
+          test : (b : Bool) → le_z best.charge here.charge ≡ b → Advised permitted K low high (n + 1) (cond b best here)
           test true t = record {
             below = omega arith;
             allowed = h.allowed;
             settles = h.settles;
             told = h.told;
-            least = one_more (λ c. best.charge ≤ℤ (settled_advice K low high c).charge) n h.least (λ q. omega (arith, ints, here));
+            least = one_more (λ c. best.charge ≤ℤ (settled_advice K low high c).charge) n h.least (λ q. omega (arith, ints));
             lowest = h.lowest;
           }
           test false t = record {
             below = omega arith;
             allowed = p;
-            settles = settles;
-            told = told;
-            least = one_more (λ c. charge ≤ℤ (settled_advice K low high c).charge) n (λ c lt q. let i = h.least c lt q in omega (arith, ints)) (λ q. omega (arith, ints, here));
+            settles = refl;
+            told = refl;
+            least = one_more (λ c. here.charge ≤ℤ (settled_advice K low high c).charge) n (λ c lt q. let i = h.least c lt q in omega (arith, ints)) (λ q. omega (arith, ints));
             lowest = λ c lt q. let i = h.least c lt q in omega (arith, ints);
           }
 
   best_next : (n : ℕ) → Best n (best_below permitted K low high n) → Best (n + 1) (best_below permitted K low high (n + 1))
   best_next n h =
       ⊎_elim
-      (λ p. subst (Best (n + 1)) (sym (best_take n p)) (taken n (first_settled (K n) low high) (settled_advice K low high n).charge (best_below permitted K low high n) p refl refl h))
+      (λ p. subst (Best (n + 1)) (sym (best_take n p)) (taken n (best_below permitted K low high n) p h))
       (λ p. subst (Best (n + 1)) (sym (best_skip n p)) (skipped n (best_below permitted K low high n) p h))
       (cases_Bool (permitted n))
 
@@ -105,6 +100,18 @@ module _ (permitted : ℕ → Bool) (K : ℕ → ℕ → ℤ) (low high : ℕ) w
         by : (o : Option Advice) → Best n o → Advised permitted K low high n (or_blank o)
         by None none = absurd (none c lt p)
         by (Some a) h = h
+
+    -- there is one then, and it is what the advice of the definitions is
+    pub some_best : (c : ℕ) → c < n → permitted c ≡ true → IsSome (best_below permitted K low high n)
+    some_best c lt p = by (best_below permitted K low high n) (best_is n)
+      where
+        by : (o : Option Advice) → Best n o → IsSome o
+        by None none = absurd (none c lt p)
+        by (Some a) h = refl
+
+    pub found : (a : Advice) → best_below permitted K low high n ≡ Some a → a ≡ advice_within permitted K low high n
+    unfolding advice_within
+    found a e = ap or_blank (sym e)
 
     lower : (a b : Advice) → Advised permitted K low high n a → Advised permitted K low high n b → a.choice < b.choice → ⊥
     lower a b h k lt =

@@ -3,4 +3,5 @@ pub mod Answered
 pub mod Halves
 pub mod Settles
 pub mod Best
+pub mod Picks
 pub mod Alike

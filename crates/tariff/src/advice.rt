@@ -1,7 +1,7 @@
 // Advice over every tariff: the cheapest permitted choice and kW.
-ghost use Rattle.std.specs.Prelude.{◌≡◌, ◌≤◌};
+ghost use Rattle.std.specs.Prelude.{◌≡◌};
 ghost use Rattle.tariff.specs.Charges.{charge_of, Bounded};
-ghost use Rattle.tariff.specs.Advised.{Advised, Cheapest, better_of, advice_of};
+ghost use Rattle.tariff.specs.Advised.{Advised, Cheapest, best_below, advice_of};
 
 use crate::meaning::Tariff;
 use crate::search::Permitted;
@@ -14,29 +14,13 @@ pub struct Advice {
     pub charge: i64,
 }
 
-// The cheaper of the two; on a tie the best so far, whose number is lower.
-fn better(best: Option<Advice>, next: Advice) -> Advice
-    ensures better { result ≡ better_of best next }
+// The best of the permitted choices, each at its advised kW: the least charge, and the first of equals.
+fn best<T: Tariff>(tariff: &T) -> Option<Advice>
+    ensures best { result ≡ best_below (T.permitted tariff.now) (charge_of (T.amount tariff.now)) 0 T.TOP T.CHOICES }
 {
-    match best {
-        Some(found) if found.charge <= next.charge => found,
-        _ => next,
-    }
-}
-
-// Advice among the kW from `low` to `high`.
-fn advised<T: Tariff>(tariff: &T, low: u16, high: u16) -> Advice
-    requires ordered { low ≤ high }
-    requires within { high ≤ T.TOP }
-    ensures rule { Advised (T.permitted tariff.now) (charge_of (T.amount tariff.now)) low high T.CHOICES result }
-{
-    let mut best = None;
-    for choice in 0..T::CHOICES {
-        if let Some(permitted) = Permitted::new(tariff, choice) {
-            best = Some(better(best, permitted.advice(low, high)));
-        }
-    }
-    best.unwrap()
+    (0..T::CHOICES)
+        .filter_map(|choice| Some(Permitted::new(tariff, choice)?.advice(0, T::TOP)))
+        .min_by_key(|advice| advice.charge)
 }
 
 // The permitted choice that costs least at its advised kW, the lowest number on a tie, with that kW and its charge.
@@ -48,5 +32,5 @@ pub fn advise<T: Tariff>(tariff: &T) -> Advice
     ensures bounded { Bounded result.charge }
     ensures cheapest { Cheapest (T.permitted tariff.now) (charge_of (T.amount tariff.now)) 0 T.TOP T.CHOICES result }
 {
-    advised(tariff, 0, T::TOP)
+    best(tariff).unwrap()
 }
