@@ -21,10 +21,8 @@ fn show<T: Tariff>(rt: &impl Print, name: &str, tariff: &T) -> io::Result<()> {
     let advice = advise(tariff);
     let (best, kw, charge) = (advice.choice, advice.kw, advice.charge);
     println!(rt; "{name}: choice {best}, {kw} kW, {charge}")?;
-    for choice in 0..T::CHOICES {
-        if tariff.permits(choice) {
-            show_choice(rt, tariff, choice, kw)?;
-        }
+    for choice in (0..T::CHOICES).filter(|choice| tariff.permits(*choice)) {
+        show_choice(rt, tariff, choice, kw)?;
     }
     Ok(())
 }
