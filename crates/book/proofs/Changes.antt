@@ -1,5 +1,5 @@
 -- Read as a plain book, the memory after a call is the plain book before it with exactly the accepted change.
-use Rattle.std.proofs.Common.{◌≡◌, ℕ, ◌/◌, ◌<◌, ◌≤◌, Bool, true, false, cond, ◌&&◌, ltb, ◌≢◌, List, length, get_or, set, ℤ, Some, None, Ok, Err, Option, sym, refl, ap, ◌∙◌, ap₂, inl, inr, arith}
+use Rattle.std.proofs.Common.{◌≡◌, ℕ, ◌/◌, ◌<◌, ◌≤◌, Bool, true, false, cond, ◌&&◌, ltb, ◌≢◌, List, length, get_or, set, ℤ, Some, None, Ok, Option, sym, refl, ap, ◌∙◌, ap₂, inl, inr, arith}
 use mathlib.Core.Path.{fun_ext}
 use Rattle.std.proofs.lemmas.List.{get_or-set_other, get_or-set_same}
 use Rattle.std.proofs.lemmas.Bool.{and_parts, cases_Bool, cases_eq, eq-eqb, lt-ltb, ltb-true, ne_eqb}
@@ -11,12 +11,10 @@ use Rattle.hours.specs.Presence.{cleared, marked, present}
 use Rattle.hours.specs.Values.{limit, limited}
 use Rattle.hours.proofs.Marks.{cleared_absent, marked_present, others_kept}
 use Rattle.book.specs.declared.account.Opening.{Opening}
-use Rattle.book.specs.declared.account.Subscription.{Subscription}
-use Rattle.book.specs.Answers.{Answer, beyond, choice_answer, hour_answer, limits_answer, memory_answer, there_answer, value_answer}
-use Rattle.book.specs.Memory.{after_amend, after_choose, after_open, after_post, blank, has_value, read, state, value_at}
-use Rattle.book.specs.Plain.{amend_answer, chosen, choose_answer, holds, opened, place_answer, plain, post_answer, put, with_subscription, written}
+use Rattle.book.specs.Answers.{Answer, beyond, hour_answer, memory_answer, value_answer}
+use Rattle.book.specs.Memory.{blank, has_value, read, state, value_at}
+use Rattle.book.specs.Plain.{opened, place_answer, Plain, plain, put}
 use Rattle.book.proofs.Joins.{passed}
-use Rattle.book.proofs.Missing.{holds_reads}
 
 -- a value that is not refused counts as it is
 within_limit : (z : ℤ) → beyond z ≡ false → limit z ≡ z
@@ -89,32 +87,19 @@ module _ (o : Opening) (rs : List HourRecord) (ws : List ℕ) (h : ℕ) (v : Hou
 never_placed : (n m h : ℕ) (v : HourRecord) (u : Unit {0}) → place_answer n m None h v ≡ Ok u → ⊥
 never_placed n m h v u e =
     let a = passed (memory_answer n m) _ u e in
-    let refused = a.2 in
-    let z : ◌≡◌ {A = ℕ} 0 1 = cc in omega arith
+    let refused = a.2 in cc
 
-is_there : (t : Bool) (h : ℕ) (u : Unit {0}) → there_answer t h ≡ Ok u → t ≡ true
-is_there true h u e = refl
-is_there false h u e = let z : ◌≡◌ {A = ℕ} 0 1 = cc in absurd (omega arith)
+pub post_law : (b : Option Opening) (rs : List HourRecord) (ws : List ℕ) (h : ℕ) (v : HourRecord) (u : Unit {0}) → Ok u ≡ place_answer (length rs) (length ws) b h v
+    → read (state b (set rs h v) (marked ws h)) ≡ plain b (put (value_at b rs ws) h v)
+post_law (Some o) rs ws h v u e = ap (plain (Some o)) (fun_ext (post_puts o rs ws h v (placed o rs ws h v u (sym e))))
+post_law None rs ws h v u e = absurd (never_placed (length rs) (length ws) h v u (sym e))
 
-pub post_law : (b : Option Opening) (rs : List HourRecord) (ws : List ℕ) (h : ℕ) (v : HourRecord) (r : Answer (Unit {0})) → r ≡ post_answer (length rs) (length ws) (read (state b rs ws)) h v
-    → read (after_post r (state b rs ws) h v) ≡ written r (read (state b rs ws)) h v
-post_law (Some o) rs ws h v (Ok u) e =
-    let a = passed (place_answer (length rs) (length ws) (Some o) h v) _ u (sym e) in
-    ap (plain (Some o)) (fun_ext (post_puts o rs ws h v (placed o rs ws h v a.0 a.1)))
-post_law None rs ws h v (Ok u) e =
-    let a = passed (place_answer (length rs) (length ws) None h v) _ u (sym e) in absurd (never_placed (length rs) (length ws) h v a.0 a.1)
-post_law b rs ws h v (Err f) e = refl
-
-pub amend_law : (b : Option Opening) (rs : List HourRecord) (ws : List ℕ) (h : ℕ) (v : HourRecord) (r : Answer (Unit {0})) → r ≡ amend_answer (length rs) (length ws) (read (state b rs ws)) h v
-    → read (after_amend r (state b rs ws) h v) ≡ written r (read (state b rs ws)) h v
-amend_law (Some o) rs ws h v (Ok u) e =
-    let a = passed (place_answer (length rs) (length ws) (Some o) h v) _ u (sym e) in
-    let there : has_value (Some o) ws h ≡ true = sym (holds_reads (Some o) rs ws h) ∙ is_there (holds (read (state (Some o) rs ws)) h) h u a.2 in
-    let bit = and_parts (ltb h (year_hours o.year)) (present ws h) there in
-    ap (plain (Some o)) (fun_ext (amend_puts o rs ws h v (placed o rs ws h v a.0 a.1) bit.1))
-amend_law None rs ws h v (Ok u) e =
-    let a = passed (place_answer (length rs) (length ws) None h v) _ u (sym e) in absurd (never_placed (length rs) (length ws) h v a.0 a.1)
-amend_law b rs ws h v (Err f) e = refl
+pub amend_law : (b : Option Opening) (rs : List HourRecord) (ws : List ℕ) (h : ℕ) (v : HourRecord) (u : Unit {0}) → Ok u ≡ place_answer (length rs) (length ws) b h v → true ≡ has_value b ws h
+    → read (state b (set rs h v) ws) ≡ plain b (put (value_at b rs ws) h v)
+amend_law (Some o) rs ws h v u e there =
+    let bit = and_parts (ltb h (year_hours o.year)) (present ws h) (sym there) in
+    ap (plain (Some o)) (fun_ext (amend_puts o rs ws h v (placed o rs ws h v u (sym e)) bit.1))
+amend_law None rs ws h v u e there = absurd (never_placed (length rs) (length ws) h v u (sym e))
 
 -- no hour of a year has a value once its words are cleared
 nothing_left : (o : Opening) (rs : List HourRecord) (ws : List ℕ) (k : ℕ) → value_at (Some o) rs (cleared ws) k ≡ None
@@ -126,17 +111,5 @@ nothing_left o rs ws k = elim (cases_Bool (ltb k (year_hours o.year))) [
   | inr past ↦ ap (λ (s : Bool). cond (s && present (cleared ws) k) (Some (limited (get_or rs k blank))) None) past
 ]
 
-pub open_law : (b : Option Opening) (rs : List HourRecord) (ws : List ℕ) (r : Answer Opening) → read (after_open r (state b rs ws)) ≡ opened r (read (state b rs ws))
-open_law b rs ws (Ok o) = ap (plain (Some o)) (fun_ext (nothing_left o rs ws))
-open_law b rs ws (Err f) = refl
-
--- the hours do not depend on the subscription
-pub choose_law : (b : Option Opening) (s : Subscription) (rs : List HourRecord) (ws : List ℕ) (r : Answer Opening) → r ≡ choose_answer b s
-    → read (state (after_choose r b) rs ws) ≡ chosen r (read (state b rs ws))
-choose_law (Some o) s rs ws (Ok o') e =
-    let a = passed (choice_answer o.connection s.choice) _ o' (sym e) in
-    let c = passed (limits_answer o.connection s) _ o' a.2 in
-    let same : with_subscription o s ≡ o' = let told = c.2 in cc in
-    ap (λ (x : Opening). plain (Some o') (value_at (Some x) rs ws)) (sym same)
-choose_law None s rs ws (Ok o') e = let z : ◌≡◌ {A = ℕ} 0 1 = cc in absurd (omega arith)
-choose_law b s rs ws (Err f) e = refl
+pub open_law : (o : Opening) (rs : List HourRecord) (ws : List ℕ) (a : Answer Opening) (p : Plain) → Ok o ≡ a → read (state (Some o) rs (cleared ws)) ≡ opened a p
+open_law o rs ws a p e = ap (plain (Some o)) (fun_ext (nothing_left o rs ws)) ∙ ap (λ (r : Answer Opening). opened r p) e

@@ -1,4 +1,5 @@
 pub mod Points
 pub mod Answers
+pub mod Periods
 pub mod Plain
 pub mod Memory

@@ -11,6 +11,11 @@ use Rattle.book.specs.declared.account.Subscription.{Subscription}
 abbrev pub area_of : ℕ → Option Area
 area_of n = cond (n == 1) (Some Norrbotten) (cond (n == 2) (Some MiddleNorrland) (cond (n == 3) (Some Southern) None))
 
+abbrev pub area_number : Area → ℕ
+area_number Norrbotten = 1
+area_number MiddleNorrland = 2
+area_number Southern = 3
+
 abbrev pub connection_of : ℕ → Option Connection
 connection_of n =
     cond (n == 0) (Some L1)

@@ -1,7 +1,7 @@
 // What an opened book holds besides its hours.
 use super::point::{Area, Connection};
 
-// A choice, its kW, and extra reactive withdrawal and input in kVAr.
+// A choice, its kW, and extra reactive withdrawal and input in kVAr. A choice is a tariff's own number, and any may come in.
 #[derive(Clone, Copy, PartialEq, Eq, Debug)]
 pub struct Subscription {
     pub choice: u8,

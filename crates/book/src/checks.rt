@@ -1,50 +1,45 @@
 // The tests of the calls, one for each row of the table of refusals.
-ghost use Rattle.std.specs.Prelude.{◌≡◌, true, length, IfOk, Some};
-ghost use Rattle.book.specs.Answers.{area_answer, beyond, choice_answer, connection_answer, hour_answer, limits_answer, memory_answer, number_answer, opened_answer, value_answer, year_answer};
+ghost use Rattle.std.specs.Prelude.{◌≡◌, true, length, Err, IfOk, MatchResult, Some, cond, nat_lt};
+ghost use Rattle.refusals.specs.declared.book.BookRefusal.TheVariants as refused;
+ghost use Rattle.book.specs.Answers.{beyond, choice_answer, fine, hour_answer, limits_answer, memory_answer, opened_answer, unless, value_answer, year_answer};
 ghost use Rattle.book.specs.Memory.{has_value};
 ghost use Rattle.book.specs.Plain.{open_answer, place_answer};
 ghost use Rattle.book.specs.Points.{lawful};
 
 use super::account::{Opening, Subscription};
 use super::point::{Area, Connection};
-use calendar::year_hours;
+use calendar::{Year, year_hours};
 use hours::{HourRecord, is_present};
 use refusals::{BookRefusal, Lent, Quantity};
+
+// What a caller lends at least: a record for each hour of a leap year, and a bit for each of these records.
+const RECORDS: usize = 8_784;
+
+const WORDS: usize = 138;
+
+// The most kWh or kVArh of an hour, either way.
+const MOST_VALUE: i16 = 32_000;
+
+// The most kVAr of an extra subscription.
+const MOST_EXTRA: u16 = 32_000;
+
+fn refuse_unless(test: bool, refusal: BookRefusal) -> Result<(), BookRefusal>
+    ensures answer { result ≡ unless test refusal }
+{
+    if test { Ok(()) } else { Err(refusal) }
+}
+
+fn check_length(short: Lent, length: usize, least: usize) -> Result<(), BookRefusal>
+    ensures answer { result ≡ cond (nat_lt length least) (Err (refused.Memory short)) fine }
+{
+    refuse_unless(length >= least, BookRefusal::Memory { short })
+}
 
 pub(crate) fn check_memory(records: &[HourRecord], words: &[u64]) -> Result<(), BookRefusal>
     ensures answer { result ≡ memory_answer (length records.now) (length words.now) }
 {
-    if records.len() < 8784 {
-        return Err(BookRefusal::Memory {
-            short: Lent::Records,
-        });
-    }
-    if words.len() < 138 {
-        return Err(BookRefusal::Memory { short: Lent::Words });
-    }
-    Ok(())
-}
-
-pub(crate) fn check_year(year: u16) -> Result<(), BookRefusal>
-    ensures answer { result ≡ year_answer year }
-{
-    if 2002 <= year && year <= 2299 {
-        Ok(())
-    } else {
-        Err(BookRefusal::Year { year })
-    }
-}
-
-pub(crate) fn check_area(area: u8) -> Result<Area, BookRefusal>
-    ensures answer { result ≡ area_answer area }
-{
-    Area::new(area).ok_or(BookRefusal::Area { area })
-}
-
-pub(crate) fn check_connection(connection: u8) -> Result<Connection, BookRefusal>
-    ensures answer { result ≡ connection_answer connection }
-{
-    Connection::new(connection).ok_or(BookRefusal::Connection { connection })
+    check_length(Lent::Records, records.len(), RECORDS)?;
+    check_length(Lent::Words, words.len(), WORDS)
 }
 
 // The tests of open, and what the book then holds.
@@ -59,9 +54,9 @@ pub(crate) fn check_open(
     ensures lawful { IfOk result (λ o. lawful (Some o) ≡ true) }
 {
     check_memory(records, words)?;
-    check_year(year)?;
-    let area = check_area(area)?;
-    let connection = check_connection(connection)?;
+    let year = Year::new(year).ok_or(BookRefusal::Year { year })?;
+    let area = Area::try_from(area)?;
+    let connection = Connection::try_from(connection)?;
     let subscription = Subscription {
         choice: connection.own_choice(),
         power: 0,
@@ -69,7 +64,7 @@ pub(crate) fn check_open(
         extra_input: 0,
     };
     Ok(Opening {
-        year,
+        year: year.number,
         area,
         connection,
         subscription,
@@ -85,21 +80,14 @@ pub(crate) fn check_opened(opening: Option<Opening>) -> Result<Opening, BookRefu
 pub(crate) fn check_hour(year: u16, hour: u16) -> Result<(), BookRefusal>
     ensures answer { result ≡ hour_answer year hour }
 {
-    if hour < year_hours(year) {
-        Ok(())
-    } else {
-        Err(BookRefusal::Hour { hour })
-    }
+    refuse_unless(hour < year_hours(year), BookRefusal::Hour { hour })
 }
 
 // Whether the hour has a value: the book is open, the hour is one of its year and its bit is one.
 pub(crate) fn has_value(opening: Option<Opening>, words: &[u64], hour: u16) -> bool
     ensures held { result ≡ has_value opening words.now hour }
 {
-    match opening {
-        Some(opening) => hour < year_hours(opening.year) && is_present(words, hour),
-        None => false,
-    }
+    opening.is_some_and(|opening| hour < year_hours(opening.year) && is_present(words, hour))
 }
 
 // The tests that post and amend share.
@@ -121,27 +109,26 @@ pub(crate) fn check_place(
 fn is_beyond(value: i16) -> bool
     ensures beyond { result ≡ beyond value }
 {
-    value < -32_000 || value > 32_000
+    !(-MOST_VALUE..=MOST_VALUE).contains(&value)
 }
 
 pub(crate) fn check_value(hour: u16, value: HourRecord) -> Result<(), BookRefusal>
     ensures answer { result ≡ value_answer hour value }
 {
-    if is_beyond(value.active) || is_beyond(value.reactive) {
-        Err(BookRefusal::Value { hour })
-    } else {
-        Ok(())
-    }
+    let beyond = is_beyond(value.active) || is_beyond(value.reactive);
+    refuse_unless(!beyond, BookRefusal::Value { hour })
 }
 
 pub(crate) fn check_choice(connection: Connection, choice: u8) -> Result<(), BookRefusal>
     ensures answer { result ≡ choice_answer connection choice }
 {
-    if connection.is_open(choice) {
-        Ok(())
-    } else {
-        Err(BookRefusal::Choice { choice })
-    }
+    refuse_unless(connection.is_open(choice), BookRefusal::Choice { choice })
+}
+
+fn check_limit(quantity: Quantity, value: u16, most: u16) -> Result<(), BookRefusal>
+    ensures answer { result ≡ cond (nat_lt most value) (Err (refused.Limit quantity)) fine }
+{
+    refuse_unless(value <= most, BookRefusal::Limit { quantity })
 }
 
 pub(crate) fn check_limits(
@@ -150,30 +137,11 @@ pub(crate) fn check_limits(
 ) -> Result<(), BookRefusal>
     ensures answer { result ≡ limits_answer connection subscription }
 {
-    if subscription.power > connection.top() {
-        return Err(BookRefusal::Limit {
-            quantity: Quantity::Power,
-        });
-    }
-    if subscription.extra_withdrawal > 32_000 {
-        return Err(BookRefusal::Limit {
-            quantity: Quantity::ExtraWithdrawal,
-        });
-    }
-    if subscription.extra_input > 32_000 {
-        return Err(BookRefusal::Limit {
-            quantity: Quantity::ExtraInput,
-        });
-    }
-    Ok(())
-}
-
-pub(crate) fn check_number(number: u8) -> Result<(), BookRefusal>
-    ensures answer { result ≡ number_answer number }
-{
-    if 1 <= number && number <= 13 {
-        Ok(())
-    } else {
-        Err(BookRefusal::Number { number })
-    }
+    check_limit(Quantity::Power, subscription.power, connection.top())?;
+    check_limit(
+        Quantity::ExtraWithdrawal,
+        subscription.extra_withdrawal,
+        MOST_EXTRA,
+    )?;
+    check_limit(Quantity::ExtraInput, subscription.extra_input, MOST_EXTRA)
 }

@@ -5,12 +5,12 @@ mod account;
 mod book;
 mod calls;
 mod checks;
+mod period;
 mod point;
-mod span;
-mod steps;
 #[cfg(test)]
 mod tests;
 
 pub use account::{Opening, Subscription};
 pub use book::Book;
+pub use period::Period;
 pub use point::{Area, Connection};

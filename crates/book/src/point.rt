@@ -1,6 +1,9 @@
 // A connection point: its area and its connection.
-ghost use Rattle.std.specs.Prelude.{◌≡◌, ◌≤◌};
-ghost use Rattle.book.specs.Points.{area_of, connection_of, is_open, own_choice, top_of};
+ghost use Rattle.std.specs.Prelude.{◌≡◌, Some};
+ghost use Rattle.book.specs.Answers.{area_answer, connection_answer};
+ghost use Rattle.book.specs.Points.{area_number, area_of, is_open, own_choice, top_of};
+
+use refusals::BookRefusal;
 
 #[derive(Clone, Copy, PartialEq, Eq, Debug)]
 pub enum Area {
@@ -9,15 +12,29 @@ pub enum Area {
     Southern,
 }
 
-impl Area {
-    pub fn new(number: u8) -> Option<Area>
-        ensures area { result ≡ area_of number }
-    {
-        match number {
-            1 => Some(Area::Norrbotten),
-            2 => Some(Area::MiddleNorrland),
-            3 => Some(Area::Southern),
-            _ => None,
+impl TryFrom<u8> for Area {
+    type Error = BookRefusal;
+
+    ghost try_from_gives = { λ area r. r ≡ area_answer area };
+
+    fn try_from(area: u8) -> Result<Area, BookRefusal> {
+        match area {
+            1 => Ok(Area::Norrbotten),
+            2 => Ok(Area::MiddleNorrland),
+            3 => Ok(Area::Southern),
+            _ => Err(BookRefusal::Area { area }),
+        }
+    }
+}
+
+impl From<Area> for u8 {
+    ghost from_gives = { λ area number. (number ≡ area_number area) × (area_of number ≡ Some area) };
+
+    fn from(area: Area) -> u8 {
+        match area {
+            Area::Norrbotten => 1,
+            Area::MiddleNorrland => 2,
+            Area::Southern => 3,
         }
     }
 }
@@ -35,23 +52,27 @@ pub enum Connection {
     L33In,
 }
 
-impl Connection {
-    pub fn new(number: u8) -> Option<Connection>
-        ensures connection { result ≡ connection_of number }
-    {
-        match number {
-            0 => Some(Connection::L1),
-            1 => Some(Connection::T1),
-            2 => Some(Connection::L2),
-            3 => Some(Connection::T2),
-            4 => Some(Connection::T12),
-            5 => Some(Connection::T13),
-            6 => Some(Connection::L110In),
-            7 => Some(Connection::L33In),
-            _ => None,
+impl TryFrom<u8> for Connection {
+    type Error = BookRefusal;
+
+    ghost try_from_gives = { λ connection r. r ≡ connection_answer connection };
+
+    fn try_from(connection: u8) -> Result<Connection, BookRefusal> {
+        match connection {
+            0 => Ok(Connection::L1),
+            1 => Ok(Connection::T1),
+            2 => Ok(Connection::L2),
+            3 => Ok(Connection::T2),
+            4 => Ok(Connection::T12),
+            5 => Ok(Connection::T13),
+            6 => Ok(Connection::L110In),
+            7 => Ok(Connection::L33In),
+            _ => Err(BookRefusal::Connection { connection }),
         }
     }
+}
 
+impl Connection {
     // The choice that an opened book begins with.
     pub fn own_choice(self) -> u8
         ensures own { result ≡ own_choice self }
@@ -71,12 +92,12 @@ impl Connection {
         ensures open_to { result ≡ is_open self choice }
     {
         match self {
-            Connection::L1 => choice == 0 || choice == 2 || choice == 6,
-            Connection::T1 => choice == 1 || choice == 2 || choice == 6,
-            Connection::L2 => choice == 2 || choice == 6 || choice == 7,
-            Connection::T2 => choice == 3 || choice == 6 || choice == 8,
-            Connection::T12 => choice == 3 || choice == 4 || choice == 6,
-            Connection::T13 => choice == 1 || choice == 2 || choice == 5 || choice == 6,
+            Connection::L1 => matches!(choice, 0 | 2 | 6),
+            Connection::T1 => matches!(choice, 1 | 2 | 6),
+            Connection::L2 => matches!(choice, 2 | 6 | 7),
+            Connection::T2 => matches!(choice, 3 | 6 | 8),
+            Connection::T12 => matches!(choice, 3 | 4 | 6),
+            Connection::T13 => matches!(choice, 1 | 2 | 5 | 6),
             Connection::L110In => choice == 0,
             Connection::L33In => choice == 1,
         }

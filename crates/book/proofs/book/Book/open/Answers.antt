@@ -1,18 +1,12 @@
 -- `open` leaves a plain book without values.
-use Rattle.std.proofs.Common.{length, ap, ◌∙◌}
-use Rattle.book.specs.Memory.{read}
-use Rattle.book.specs.Plain.{open_answer}
+use Rattle.std.proofs.Common.{ℕ, List, Some, ap, ◌∙◌}
+use Rattle.book.specs.Memory.{read, state}
 use Rattle.book.proofs.Changes.{open_law}
 use Rattle.book.proofs.book.Book.open.Goals as goal
 
-pub returns : goal.returns
-returns c =
-    let done = c.perform_open.ensures in
-    let records = c.args.records.now in
-    let words = c.args.words.now in
-    record {
-      answer = done.answer;
-      after = done.after;
-      plain = ap read done.after
-          ∙ open_law c.args.self.now.opening records words (open_answer (length records) (length words) c.args.year c.args.area c.args.connection);
-    }
+pub returns-clause-plain : goal.returns-clause-plain
+returns-clause-plain c =
+    let o = c.in_ok-opening.opening in
+    let before = read (state c.args.self.now.opening c.args.records.now c.args.words.now) in
+    ap (λ (ws : List ℕ). read (state (Some o) c.args.records.now ws)) c.clear.ensures.cleared
+    ∙ open_law o c.args.records.now c.args.words.now _ before c.in_ok-opening.ensures.answer
