@@ -1,7 +1,8 @@
 // What an opened book holds besides its hours.
 use super::point::{Area, Connection};
 
-// A choice, its kW, and extra reactive withdrawal and input in kVAr. A choice is a tariff's own number, and any may come in.
+// A choice, its kW, and extra reactive withdrawal and input in kVAr.
+// A choice is a number of the tariff's own, without a kind: any may come in, and the refusal carries it.
 #[derive(Clone, Copy, PartialEq, Eq, Debug)]
 pub struct Subscription {
     pub choice: u8,
@@ -12,6 +13,7 @@ pub struct Subscription {
 
 #[derive(Clone, Copy, PartialEq, Eq, Debug)]
 pub struct Opening {
+    // a number: the definitions of the calls build openings, and a calendar's Year there needs its proofs
     pub year: u16,
     pub area: Area,
     pub connection: Connection,

@@ -1,7 +1,7 @@
 // The tests of the calls, one for each row of the table of refusals.
-ghost use Rattle.std.specs.Prelude.{◌≡◌, true, length, Err, IfOk, MatchResult, Some, cond, nat_lt};
+ghost use Rattle.std.specs.Prelude.{◌≡◌, true, length, Err, IfOk, Some, cond, nat_lt};
 ghost use Rattle.refusals.specs.declared.book.BookRefusal.TheVariants as refused;
-ghost use Rattle.book.specs.Answers.{beyond, choice_answer, fine, hour_answer, limits_answer, memory_answer, opened_answer, unless, value_answer, year_answer};
+ghost use Rattle.book.specs.Answers.{beyond, choice_answer, fine, hour_answer, limits_answer, memory_answer, opened_answer, unless, value_answer};
 ghost use Rattle.book.specs.Memory.{has_value};
 ghost use Rattle.book.specs.Plain.{open_answer, place_answer};
 ghost use Rattle.book.specs.Points.{lawful};
@@ -12,9 +12,10 @@ use calendar::{Year, year_hours};
 use hours::{HourRecord, is_present};
 use refusals::{BookRefusal, Lent, Quantity};
 
-// What a caller lends at least: a record for each hour of a leap year, and a bit for each of these records.
+// A caller lends at least a record for each hour of a leap year,
 const RECORDS: usize = 8_784;
 
+// and the words with a bit for each of these hours.
 const WORDS: usize = 138;
 
 // The most kWh or kVArh of an hour, either way.
