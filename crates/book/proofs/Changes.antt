@@ -1,5 +1,5 @@
 -- Read as a plain book, the memory after a call is the plain book before it with exactly the accepted change.
-use Rattle.std.proofs.Common.{◌≡◌, ℕ, ◌/◌, ◌<◌, ◌≤◌, Bool, true, false, cond, ◌&&◌, ltb, ◌≢◌, List, length, get_or, set, ℤ, Some, None, Ok, Option, sym, refl, ap, ◌∙◌, ap₂, inl, inr, arith}
+use Rattle.std.proofs.Common.{◌≡◌, ℕ, ◌/◌, ◌<◌, ◌≤◌, Bool, true, false, cond, ◌&&◌, ltb, ◌≢◌, List, length, get_or, set, ℤ, Some, None, Ok, Err, Option, sym, refl, ap, ◌∙◌, ap₂, inl, inr, arith}
 use mathlib.Core.Path.{fun_ext}
 use Rattle.std.proofs.lemmas.List.{get_or-set_other, get_or-set_same}
 use Rattle.std.proofs.lemmas.Bool.{and_parts, cases_Bool, cases_eq, eq-eqb, lt-ltb, ltb-true, ne_eqb}
@@ -13,8 +13,12 @@ use Rattle.hours.proofs.Marks.{cleared_absent, marked_present, others_kept}
 use Rattle.book.specs.declared.account.Opening.{Opening}
 use Rattle.book.specs.Answers.{Answer, beyond, hour_answer, memory_answer, value_answer}
 use Rattle.book.specs.Memory.{blank, has_value, read, state, value_at}
-use Rattle.book.specs.Plain.{opened, place_answer, Plain, plain, put}
-use Rattle.book.proofs.Joins.{passed}
+use Rattle.book.specs.Plain.{◌then◌, opened, place_answer, Plain, plain, put}
+
+-- tests that all pass have each passed
+passed : {X Y : Type 0} (first : Answer X) (next : X → Answer Y) (y : Y) → (first then next) ≡ Ok y → (x : X) × (first ≡ Ok x) × (next x ≡ Ok y)
+passed (Ok x) next y e = (x, refl, e)
+passed (Err f) next y e = cc
 
 -- a value that is not refused counts as it is
 within_limit : (z : ℤ) → beyond z ≡ false → limit z ≡ z

@@ -10,9 +10,8 @@ use Rattle.hours.specs.Values.{limited}
 use Rattle.hours.proofs.Counted.{count_alike, count_both}
 use Rattle.book.specs.declared.account.Opening.{Opening}
 use Rattle.book.specs.Memory.{blank, has_value, read, state}
-use Rattle.book.specs.Answers.{Answer, fine, memory_answer, number_answer, opened_answer}
-use Rattle.book.specs.Plain.{◌then◌, end_hour, first_hour, holds, missing_answer, Plain}
-use Rattle.book.proofs.Joins.{passes}
+use Rattle.book.specs.Answers.{fine, memory_answer, number_answer, opened_answer}
+use Rattle.book.specs.Plain.{end_hour, first_hour, holds, missing_answer, Plain}
 
 -- an hour of a plain book that is read from memory is present where the memory has a value
 pub holds_reads : (o : Option Opening) (rs : List HourRecord) (ws : List ℕ) (h : ℕ) → holds (read (state o rs ws)) h ≡ has_value o ws h
@@ -47,12 +46,7 @@ number_high number e = grind (arith, nat_tests)
 -- the tests of missing, all passed
 told : (n m : ℕ) (p : Plain) (o : Opening) (number k : ℕ) (u : Unit {0}) → Ok u ≡ memory_answer n m → Ok o ≡ opened_answer p.opening → fine ≡ number_answer number
     → k ≡ count (λ h. not (holds p h)) (first_hour o.year number) (end_hour o.year number - first_hour o.year number) → Ok k ≡ missing_answer n m p number
-told n m p o number k u memory opened numbered e =
-    let found : Opening → Answer ℕ = λ o. Ok (count (λ h. not (holds p h)) (first_hour o.year number) (end_hour o.year number - first_hour o.year number)) in
-    ap Ok e
-    ∙ passes (number_answer number) tt (λ _. found o) numbered
-    ∙ passes (opened_answer p.opening) o (λ o. number_answer number then λ _. found o) opened
-    ∙ passes (memory_answer n m) u (λ _. opened_answer p.opening then λ o. number_answer number then λ _. found o) memory
+told n m p o number k u memory opened numbered e = rw (← memory, ← opened, ← numbered) (ap Ok e)
 
 -- the hours of the part less its ones are what missing answers
 pub missing_law : (b : Option Opening) (rs : List HourRecord) (ws : List ℕ) (number : ℕ) (o : Opening) (first end ones : ℕ) (u : Unit {0})
