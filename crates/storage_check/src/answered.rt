@@ -1,14 +1,19 @@
 // The rows of an answer: accepted, or why the call is refused.
 use super::memory;
+use super::memory::Touched;
+use super::rig::NotLent;
 use refusals::{BookRefusal, Refusal};
 use std::io;
 use std::io::Write;
 use wording::{Layer, Named};
 
-pub fn write_answer<W: Write>(answer: Result<(), BookRefusal>, out: &mut W) -> io::Result<()> {
+pub fn write_answer<W: Write>(
+    answer: &Result<Touched, BookRefusal>,
+    out: &mut W,
+) -> io::Result<()> {
     match answer {
-        Ok(()) => writeln!(out, "  accepted"),
-        Err(refusal) => write_refusal(Refusal::Book(refusal), out),
+        Ok(_) => writeln!(out, "  accepted"),
+        Err(refusal) => write_refusal(Refusal::Book(*refusal), out),
     }
 }
 
@@ -56,15 +61,14 @@ pub fn write_no_month<W: Write>(out: &mut W) -> io::Result<()> {
     )
 }
 
-pub fn write_lent<W: Write>(is_lent: bool, out: &mut W) -> io::Result<()> {
-    if is_lent {
-        writeln!(out, "  so much is lent from here on")
-    } else {
-        writeln!(
+pub fn write_lent<W: Write>(answer: Result<(), NotLent>, out: &mut W) -> io::Result<()> {
+    match answer {
+        Ok(()) => writeln!(out, "  so much is lent from here on"),
+        Err(NotLent) => writeln!(
             out,
             "  passed over: there are {} records and {} words",
             memory::RECORDS,
             memory::WORDS
-        )
+        ),
     }
 }

@@ -1,8 +1,7 @@
 // The rows of a line of the script: the call in words, or why the line is passed over.
 use super::lines;
-use super::script::{Call, Fault};
+use super::script::{Call, Fault, Reading};
 use super::shown::Shown;
-use hours::HourRecord;
 use std::io;
 use std::io::Write;
 use wording::Named;
@@ -10,18 +9,15 @@ use wording::Named;
 pub fn write_call<W: Write>(line: u64, call: Call, out: &mut W) -> io::Result<()> {
     write!(out, "\nline {line:<5}  ")?;
     match call {
-        Call::Open {
-            year,
-            area,
-            connection,
-        } => writeln!(
+        Call::Open(point) => writeln!(
             out,
-            "open     year {year}   area {}   connection {}",
-            Named::Area(area),
-            Named::Connection(connection)
+            "open     year {}   area {}   connection {}",
+            point.year,
+            Named::Area(point.area),
+            Named::Connection(point.connection)
         ),
-        Call::Post { hour, value } => write_value("post ", hour, value, out),
-        Call::Amend { hour, value } => write_value("amend", hour, value, out),
+        Call::Post(reading) => write_reading("post ", reading, out),
+        Call::Amend(reading) => write_reading("amend", reading, out),
         Call::Choose(s) => {
             write!(out, "choose   choice {}   power {} kW", s.choice, s.power)?;
             writeln!(
@@ -38,7 +34,8 @@ pub fn write_call<W: Write>(line: u64, call: Call, out: &mut W) -> io::Result<()
     }
 }
 
-fn write_value<W: Write>(name: &str, hour: u16, value: HourRecord, out: &mut W) -> io::Result<()> {
+fn write_reading<W: Write>(name: &str, reading: Reading, out: &mut W) -> io::Result<()> {
+    let Reading { hour, value } = reading;
     writeln!(
         out,
         "{name}    hour {hour}   active {} kWh   reactive {} kVArh",

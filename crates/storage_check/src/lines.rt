@@ -1,33 +1,29 @@
-// The line that is coming in: its first bytes, and whether there were more.
+// The line that is coming in: its first bytes, and how many came.
 use std::alloc::{AllocError, Global};
 
 // No call needs a longer line.
-pub const LONGEST: usize = 200;
+pub const LONGEST: u64 = 200;
 
 #[derive(Drop)]
 pub struct Line {
     kept: Vec<u8>,
-    is_long: bool,
-    // Whether a byte has come in.
-    has_begun: bool,
+    // how many bytes have come in
+    bytes: u64,
 }
 
 impl Line {
     pub fn new(heap: Global) -> Line {
         Line {
             kept: Vec::new(heap),
-            is_long: false,
-            has_begun: false,
+            bytes: 0,
         }
     }
 
     pub fn push(&mut self, byte: u8) -> Result<(), AllocError> {
-        self.has_begun = true;
-        if self.kept.len() < LONGEST {
+        if self.bytes < LONGEST {
             self.kept.push(byte)?;
-        } else {
-            self.is_long = true;
         }
+        self.bytes = self.bytes.saturating_add(1);
         Ok(())
     }
 
@@ -36,10 +32,10 @@ impl Line {
     }
 
     pub fn is_long(&self) -> bool {
-        self.is_long
+        self.bytes > LONGEST
     }
 
     pub fn has_begun(&self) -> bool {
-        self.has_begun
+        self.bytes > 0
     }
 }

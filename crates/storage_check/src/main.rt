@@ -11,8 +11,8 @@ mod script;
 mod session;
 mod sheet;
 mod shown;
+mod store;
 mod tally;
-mod watch;
 
 use session::Session;
 use std::alloc::Global;

@@ -1,12 +1,28 @@
 // What a line of the script asks, or what is wrong with it.
+use super::lines::Line;
 use book::Subscription;
 use hours::HourRecord;
+use std::str::FromStr;
+
+// A year at a connection point, in numbers that the book may refuse.
+#[derive(Clone, Copy)]
+pub struct Point {
+    pub year: u16,
+    pub area: u8,
+    pub connection: u8,
+}
+
+#[derive(Clone, Copy)]
+pub struct Reading {
+    pub hour: u16,
+    pub value: HourRecord,
+}
 
 #[derive(Clone, Copy)]
 pub enum Call {
-    Open { year: u16, area: u8, connection: u8 },
-    Post { hour: u16, value: HourRecord },
-    Amend { hour: u16, value: HourRecord },
+    Open(Point),
+    Post(Reading),
+    Amend(Reading),
     Choose(Subscription),
     Missing { number: u8 },
     // How much of the memory later calls are lent.
@@ -35,15 +51,11 @@ pub fn is_comment(line: &[u8]) -> bool {
     matches!(line, [b'#', ..])
 }
 
-// The text of a line, of which more than these bytes came in if it is long.
-pub fn text(line: &[u8], is_long: bool) -> Result<&str, Fault<'_>> {
-    if is_long {
+pub fn text(line: &Line) -> Result<&str, Fault<'_>> {
+    if line.is_long() {
         return Err(Fault::Long);
     }
-    match std::str::from_utf8(line) {
-        Ok(text) => Ok(text),
-        Err(_) => Err(Fault::NoText),
-    }
+    std::str::from_utf8(line.kept()).map_err(|_| Fault::NoText)
 }
 
 // A call, or none for a line without words.
@@ -52,10 +64,10 @@ pub fn read<'a>(words: &[&'a str]) -> Result<Option<Call>, Fault<'a>> {
         return Ok(None);
     };
     let call = match *word {
-        "open" => open(fields)?,
-        "post" => post(fields)?,
-        "amend" => amend(fields)?,
-        "choose" => choose(fields)?,
+        "open" => Call::Open(Point::read(fields)?),
+        "post" => Call::Post(Reading::read(fields, "post HOUR ACTIVE REACTIVE")?),
+        "amend" => Call::Amend(Reading::read(fields, "amend HOUR ACTIVE REACTIVE")?),
+        "choose" => Call::Choose(subscription(fields)?),
         "missing" => missing(fields)?,
         "lend" => lend(fields)?,
         _ => return Err(Fault::NoCall { word: *word }),
@@ -63,65 +75,58 @@ pub fn read<'a>(words: &[&'a str]) -> Result<Option<Call>, Fault<'a>> {
     Ok(Some(call))
 }
 
-fn open<'a>(fields: &[&'a str]) -> Result<Call, Fault<'a>> {
-    let [year, area, connection] = fields else {
-        return Err(Fault::Form {
-            form: "open YEAR AREA CONNECTION",
-        });
-    };
-    Ok(Call::Open {
-        year: wide("YEAR", *year)?,
-        area: narrow("AREA", *area)?,
-        connection: narrow("CONNECTION", *connection)?,
-    })
+impl Point {
+    fn read<'a>(fields: &[&'a str]) -> Result<Point, Fault<'a>> {
+        let [year, area, connection] = fields else {
+            return Err(Fault::Form {
+                form: "open YEAR AREA CONNECTION",
+            });
+        };
+        Ok(Point {
+            year: number("YEAR", *year)?,
+            area: number("AREA", *area)?,
+            connection: number("CONNECTION", *connection)?,
+        })
+    }
 }
 
-fn post<'a>(fields: &[&'a str]) -> Result<Call, Fault<'a>> {
-    let [hour, active, reactive] = fields else {
-        return Err(Fault::Form {
-            form: "post HOUR ACTIVE REACTIVE",
-        });
-    };
-    Ok(Call::Post {
-        hour: wide("HOUR", *hour)?,
-        value: value(*active, *reactive)?,
-    })
+impl Reading {
+    fn read<'a>(fields: &[&'a str], form: &'static str) -> Result<Reading, Fault<'a>> {
+        let [hour, active, reactive] = fields else {
+            return Err(Fault::Form { form });
+        };
+        Ok(Reading {
+            hour: number("HOUR", *hour)?,
+            value: HourRecord {
+                active: number("ACTIVE", *active)?,
+                reactive: number("REACTIVE", *reactive)?,
+            },
+        })
+    }
 }
 
-fn amend<'a>(fields: &[&'a str]) -> Result<Call, Fault<'a>> {
-    let [hour, active, reactive] = fields else {
-        return Err(Fault::Form {
-            form: "amend HOUR ACTIVE REACTIVE",
-        });
-    };
-    Ok(Call::Amend {
-        hour: wide("HOUR", *hour)?,
-        value: value(*active, *reactive)?,
-    })
-}
-
-fn choose<'a>(fields: &[&'a str]) -> Result<Call, Fault<'a>> {
+fn subscription<'a>(fields: &[&'a str]) -> Result<Subscription, Fault<'a>> {
     let [choice, power, withdrawal, input] = fields else {
         return Err(Fault::Form {
             form: "choose CHOICE KW EW EI",
         });
     };
-    Ok(Call::Choose(Subscription {
-        choice: narrow("CHOICE", *choice)?,
-        power: wide("KW", *power)?,
-        extra_withdrawal: wide("EW", *withdrawal)?,
-        extra_input: wide("EI", *input)?,
-    }))
+    Ok(Subscription {
+        choice: number("CHOICE", *choice)?,
+        power: number("KW", *power)?,
+        extra_withdrawal: number("EW", *withdrawal)?,
+        extra_input: number("EI", *input)?,
+    })
 }
 
 fn missing<'a>(fields: &[&'a str]) -> Result<Call, Fault<'a>> {
-    let [number] = fields else {
+    let [text] = fields else {
         return Err(Fault::Form {
             form: "missing NUMBER",
         });
     };
     Ok(Call::Missing {
-        number: narrow("NUMBER", *number)?,
+        number: number("NUMBER", *text)?,
     })
 }
 
@@ -132,47 +137,35 @@ fn lend<'a>(fields: &[&'a str]) -> Result<Call, Fault<'a>> {
         });
     };
     Ok(Call::Lend {
-        records: wide("RECORDS", *records)?,
-        words: wide("WORDS", *words)?,
+        records: number("RECORDS", *records)?,
+        words: number("WORDS", *words)?,
     })
 }
 
-fn value<'a>(active: &'a str, reactive: &'a str) -> Result<HourRecord, Fault<'a>> {
-    Ok(HourRecord {
-        active: signed("ACTIVE", active)?,
-        reactive: signed("REACTIVE", reactive)?,
+// A type of number, and which numbers it holds.
+trait Ranged: FromStr {
+    const RANGE: &'static str;
+}
+
+impl Ranged for u8 {
+    const RANGE: &'static str = "0 to 255";
+}
+
+impl Ranged for u16 {
+    const RANGE: &'static str = "0 to 65535";
+}
+
+impl Ranged for i16 {
+    const RANGE: &'static str = "-32768 to 32767";
+}
+
+fn number<'a, N: Ranged>(name: &'static str, text: &'a str) -> Result<N, Fault<'a>>
+where
+    N::Err: Drop,
+{
+    text.parse::<N>().map_err(|_| Fault::Number {
+        name,
+        text,
+        range: N::RANGE,
     })
-}
-
-fn narrow<'a>(name: &'static str, text: &'a str) -> Result<u8, Fault<'a>> {
-    match text.parse::<u8>() {
-        Ok(number) => Ok(number),
-        Err(_) => Err(Fault::Number {
-            name,
-            text,
-            range: "0 to 255",
-        }),
-    }
-}
-
-fn wide<'a>(name: &'static str, text: &'a str) -> Result<u16, Fault<'a>> {
-    match text.parse::<u16>() {
-        Ok(number) => Ok(number),
-        Err(_) => Err(Fault::Number {
-            name,
-            text,
-            range: "0 to 65535",
-        }),
-    }
-}
-
-fn signed<'a>(name: &'static str, text: &'a str) -> Result<i16, Fault<'a>> {
-    match text.parse::<i16>() {
-        Ok(number) => Ok(number),
-        Err(_) => Err(Fault::Number {
-            name,
-            text,
-            range: "-32768 to 32767",
-        }),
-    }
 }

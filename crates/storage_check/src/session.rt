@@ -2,12 +2,10 @@
 use super::lines::Line;
 use super::memory::Touched;
 use super::rig::Rig;
-use super::script::{Call, Fault};
+use super::script::{Call, Fault, Point};
 use super::tally::Tally;
-use super::watch::Watch;
 use super::{answered, asked, held, script, sheet};
-use book::Subscription;
-use hours::HourRecord;
+use refusals::BookRefusal;
 use std::alloc::{AllocError, Global};
 use std::io;
 use std::io::Write;
@@ -17,7 +15,6 @@ pub struct Session {
     heap: Global,
     line: Line,
     rig: Rig,
-    watch: Watch,
     tally: Tally,
 }
 
@@ -27,8 +24,7 @@ impl Session {
             heap,
             line: Line::new(heap),
             rig: Rig::new(heap)?,
-            watch: Watch::new(heap)?,
-            tally: Tally::new(),
+            tally: Tally::default(),
         })
     }
 
@@ -50,11 +46,7 @@ impl Session {
             self.end_line(out)?;
         }
         sheet::write_tally(&self.tally, out)?;
-        sheet::write_end(
-            self.watch.compare_records(self.rig.memory()),
-            self.watch.compare_words(self.rig.memory()),
-            out,
-        )
+        sheet::write_end(self.rig.memory.untouched(), out)
     }
 
     fn end_line<W: Write>(&mut self, out: &mut W) -> io::Result<()> {
@@ -63,7 +55,7 @@ impl Session {
         if script::is_comment(line.kept()) {
             return Ok(());
         }
-        match script::text(line.kept(), line.is_long()) {
+        match script::text(&line) {
             Ok(text) => self.go_through(text, out),
             Err(fault) => self.pass_over(fault, out),
         }
@@ -86,86 +78,82 @@ impl Session {
     fn perform<W: Write>(&mut self, call: Call, out: &mut W) -> io::Result<()> {
         asked::write_call(self.tally.lines, call, out)?;
         match call {
-            Call::Open {
-                year,
-                area,
-                connection,
-            } => self.open(year, area, connection, out),
-            Call::Post { hour, value } => self.post(hour, value, out),
-            Call::Amend { hour, value } => self.amend(hour, value, out),
-            Call::Choose(subscription) => self.choose(subscription, out),
-            Call::Missing { number } => self.missing(number, out),
+            Call::Open(point) => self.open(point, out),
+            Call::Post(reading) => {
+                let answer = self.rig.post(reading);
+                self.show_hour(reading.hour, answer, out)
+            }
+            Call::Amend(reading) => {
+                let answer = self.rig.amend(reading);
+                self.show_hour(reading.hour, answer, out)
+            }
+            Call::Choose(subscription) => {
+                let answer = self.rig.choose(subscription);
+                answered::write_answer(&answer, out)?;
+                self.settle(answer, out)
+            }
+            Call::Missing { number } => {
+                let answer = self.rig.missing(number);
+                answered::write_count(answer, out)?;
+                self.settle(answer.map(|_| Touched::nothing()), out)
+            }
             Call::Lend { records, words } => self.lend(records, words, out),
         }
     }
 
-    fn open<W: Write>(
-        &mut self,
-        year: u16,
-        area: u8,
-        connection: u8,
-        out: &mut W,
-    ) -> io::Result<()> {
-        let answer = self.rig.open(year, area, connection);
-        answered::write_answer(answer, out)?;
-        held::write_opened(self.watch.last(), self.rig.memory(), out)?;
+    fn open<W: Write>(&mut self, point: Point, out: &mut W) -> io::Result<()> {
+        let answer = self.rig.open(point);
+        answered::write_answer(&answer, out)?;
+        held::write_opened(&self.rig.memory, out)?;
         answered::write_missing(13, self.rig.missing(13), out)?;
-        self.settle(answer.is_ok(), Touched::Words, out)
-    }
-
-    fn post<W: Write>(&mut self, hour: u16, value: HourRecord, out: &mut W) -> io::Result<()> {
-        let answer = self.rig.post(hour, value);
-        answered::write_answer(answer, out)?;
-        self.write_hour(hour, out)?;
-        self.settle(answer.is_ok(), Touched::Hour(hour), out)
-    }
-
-    fn amend<W: Write>(&mut self, hour: u16, value: HourRecord, out: &mut W) -> io::Result<()> {
-        let answer = self.rig.amend(hour, value);
-        answered::write_answer(answer, out)?;
-        self.write_hour(hour, out)?;
-        self.settle(answer.is_ok(), Touched::Record(hour), out)
-    }
-
-    fn choose<W: Write>(&mut self, subscription: Subscription, out: &mut W) -> io::Result<()> {
-        let answer = self.rig.choose(subscription);
-        answered::write_answer(answer, out)?;
-        self.settle(answer.is_ok(), Touched::Nothing, out)
-    }
-
-    fn missing<W: Write>(&mut self, number: u8, out: &mut W) -> io::Result<()> {
-        let answer = self.rig.missing(number);
-        let is_accepted = answer.is_ok();
-        answered::write_count(answer, out)?;
-        self.settle(is_accepted, Touched::Nothing, out)
-    }
-
-    fn lend<W: Write>(&mut self, records: u16, words: u16, out: &mut W) -> io::Result<()> {
-        let is_lent = self.rig.lend(records, words);
-        if !is_lent {
-            self.tally.fault();
-        }
-        answered::write_lent(is_lent, out)
+        self.settle(answer, out)
     }
 
     // The record and the word of an hour, and what its month lacks.
-    fn write_hour<W: Write>(&self, hour: u16, out: &mut W) -> io::Result<()> {
-        held::write_record(hour, self.watch.last(), self.rig.memory(), out)?;
-        held::write_bit(hour, self.watch.last(), self.rig.memory(), out)?;
+    fn show_hour<W: Write>(
+        &mut self,
+        hour: u16,
+        answer: Result<Touched, BookRefusal>,
+        out: &mut W,
+    ) -> io::Result<()> {
+        answered::write_answer(&answer, out)?;
+        held::write_record(hour, &self.rig.memory, out)?;
+        held::write_bit(hour, &self.rig.memory, out)?;
         match self.rig.month_of(hour) {
-            Some(month) => answered::write_missing(month, self.rig.missing(month), out),
-            None => answered::write_no_month(out),
+            Some(month) => {
+                answered::write_missing(month.number, self.rig.missing(month.number), out)?
+            }
+            None => answered::write_no_month(out)?,
         }
+        self.settle(answer, out)
+    }
+
+    fn lend<W: Write>(&mut self, records: u16, words: u16, out: &mut W) -> io::Result<()> {
+        let answer = self.rig.lend(records, words);
+        if answer.is_err() {
+            self.tally.fault();
+        }
+        answered::write_lent(answer, out)
     }
 
     // Compares all the memory that the call may not have touched.
-    fn settle<W: Write>(&mut self, is_accepted: bool, own: Touched, out: &mut W) -> io::Result<()> {
-        let touched = if is_accepted { own } else { Touched::Nothing };
-        let now = self.rig.memory();
-        let records = now.compare_records(self.watch.last(), touched);
-        let words = now.compare_words(self.watch.last(), touched);
-        self.watch.follow(now, touched);
-        self.tally.call(is_accepted);
-        sheet::write_others(records, words, out)
+    fn settle<W: Write>(
+        &mut self,
+        answer: Result<Touched, BookRefusal>,
+        out: &mut W,
+    ) -> io::Result<()> {
+        let touched = match answer {
+            Ok(touched) => {
+                self.tally.accepted();
+                touched
+            }
+            Err(_) => {
+                self.tally.refused();
+                Touched::nothing()
+            }
+        };
+        let compared = self.rig.memory.others(&touched);
+        self.rig.memory.follow(&touched);
+        sheet::write_others(compared, out)
     }
 }

@@ -21,24 +21,19 @@ pub fn write_header<W: Write>(out: &mut W) -> io::Result<()> {
 }
 
 // What the call may not have touched.
-pub fn write_others<W: Write>(records: Compared, words: Compared, out: &mut W) -> io::Result<()> {
+pub fn write_others<W: Write>(compared: Compared, out: &mut W) -> io::Result<()> {
     write!(
         out,
         "  others  {:>5} records and {:>3} words compared, ",
-        records.all, words.all
+        compared.records.all, compared.words.all
     )?;
-    write_changed(records, words, out)
+    write_changed(compared, out)
 }
 
-fn write_changed<W: Write>(records: Compared, words: Compared, out: &mut W) -> io::Result<()> {
-    if records.changed == 0 && words.changed == 0 {
-        writeln!(out, "all as they were")
-    } else {
-        writeln!(
-            out,
-            "CHANGED: {} records and {} words",
-            records.changed, words.changed
-        )
+fn write_changed<W: Write>(compared: Compared, out: &mut W) -> io::Result<()> {
+    match (compared.records.changed, compared.words.changed) {
+        (0, 0) => writeln!(out, "all as they were"),
+        (records, words) => writeln!(out, "CHANGED: {records} records and {words} words"),
     }
 }
 
@@ -51,11 +46,11 @@ pub fn write_tally<W: Write>(tally: &Tally, out: &mut W) -> io::Result<()> {
 }
 
 // What no accepted call may have touched, from the first line to the last.
-pub fn write_end<W: Write>(records: Compared, words: Compared, out: &mut W) -> io::Result<()> {
+pub fn write_end<W: Write>(compared: Compared, out: &mut W) -> io::Result<()> {
     write!(
         out,
         "  never touched by an accepted call: {} records and {} words, compared with the first memory, ",
-        records.all, words.all
+        compared.records.all, compared.words.all
     )?;
-    write_changed(records, words, out)
+    write_changed(compared, out)
 }
