@@ -17,8 +17,8 @@ pub const NEEDED_WORDS: u16 = 138;
 // The records and the words that an accepted call may have changed.
 #[derive(Drop)]
 pub struct Touched {
-    pub records: Range<u16>,
-    pub words: Range<u16>,
+    pub records: Range<usize>,
+    pub words: Range<usize>,
 }
 
 impl Touched {
@@ -33,7 +33,7 @@ impl Touched {
     pub fn year_of_words() -> Touched {
         Touched {
             records: 0..0,
-            words: 0..NEEDED_WORDS,
+            words: 0..usize::from(NEEDED_WORDS),
         }
     }
 
@@ -54,8 +54,9 @@ impl Touched {
     }
 }
 
-fn one(i: u16) -> Range<u16> {
-    i..i.saturating_add(1)
+fn one(i: u16) -> Range<usize> {
+    let i = usize::from(i);
+    i..i + 1
 }
 
 // What was compared of the records and of the words.

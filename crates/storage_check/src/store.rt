@@ -88,9 +88,9 @@ impl<T: Copy + PartialEq> Store<T> {
     }
 
     // The items outside the touched places, against what the last call left.
-    pub fn others(&self, touched: &Range<u16>) -> Counted {
+    pub fn others(&self, touched: &Range<usize>) -> Counted {
         let mut counted = Counted::default();
-        for (i, (item, kept)) in (0u16..).zip(self.items.iter().zip(self.kept.iter())) {
+        for (i, (item, kept)) in self.items.iter().zip(self.kept.iter()).enumerate() {
             if !touched.contains(&i) {
                 counted.compare(item, &kept.last);
             }
@@ -110,10 +110,9 @@ impl<T: Copy + PartialEq> Store<T> {
     }
 
     // Takes over the touched places.
-    pub fn follow(&mut self, touched: &Range<u16>) {
+    pub fn follow(&mut self, touched: &Range<usize>) {
         let places = self.items.iter().zip(self.kept.iter_mut());
-        let skipped = usize::from(touched.start);
-        for (item, kept) in places.skip(skipped).take(touched.len()) {
+        for (item, kept) in places.skip(touched.start).take(touched.len()) {
             *kept = Kept {
                 last: *item,
                 first: None,
