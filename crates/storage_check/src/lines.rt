@@ -34,8 +34,4 @@ impl Line {
     pub fn is_long(&self) -> bool {
         self.bytes > LONGEST
     }
-
-    pub fn has_begun(&self) -> bool {
-        self.bytes > 0
-    }
 }

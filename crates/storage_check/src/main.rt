@@ -14,24 +14,17 @@ mod shown;
 mod store;
 mod tally;
 
+use line_input::read_lines;
 use session::Session;
 use std::alloc::Global;
 use std::io;
 use std::io::{BufWriter, Read, Write};
 
-// Reads to the end of the input, a chunk at a time.
 fn run<R: Read, W: Write>(heap: Global, input: &mut R, out: &mut W) -> io::Result<()> {
-    let mut chunk = [0u8; 4096];
-    let mut session = Session::new(heap)?;
     sheet::write_header(out)?;
-    for _ in 0..u64::MAX {
-        let n = input.read(&mut chunk)?;
-        if n == 0 {
-            break;
-        }
-        session.take(&chunk[0..n], out)?;
-    }
-    session.finish(out)
+    let mut session = Session::new(heap, out)?;
+    read_lines(input, &mut session)?;
+    session.finish()
 }
 
 fn main(rt: HostRuntime) -> io::Result<()> {

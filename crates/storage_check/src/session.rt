@@ -5,143 +5,115 @@ use super::rig::Rig;
 use super::script::{Call, Fault, Point};
 use super::tally::Tally;
 use super::{answered, asked, held, script, sheet};
+use line_input::Lines;
 use refusals::BookRefusal;
 use std::alloc::{AllocError, Global};
 use std::io;
 use std::io::Write;
 
 #[derive(Drop)]
-pub struct Session {
+pub struct Session<'a, W> {
     heap: Global,
+    out: &'a mut W,
     line: Line,
     rig: Rig,
     tally: Tally,
 }
 
-impl Session {
-    pub fn new(heap: Global) -> Result<Session, AllocError> {
+impl<'a, W: Write> Session<'a, W> {
+    pub fn new(heap: Global, out: &'a mut W) -> Result<Session<'a, W>, AllocError> {
         Ok(Session {
             heap,
+            out,
             line: Line::new(heap),
             rig: Rig::new(heap)?,
             tally: Tally::default(),
         })
     }
 
-    // Takes in the next bytes, and goes through the lines that they end.
-    pub fn take<W: Write>(&mut self, bytes: &[u8], out: &mut W) -> io::Result<()> {
-        for byte in bytes {
-            if *byte == b'\n' {
-                self.end_line(out)?;
-            } else {
-                self.line.push(*byte)?;
-            }
-        }
-        Ok(())
+    pub fn finish(self) -> io::Result<()> {
+        let Session {
+            out,
+            rig,
+            tally,
+            ..
+        } = self;
+        sheet::write_tally(&tally, out)?;
+        sheet::write_end(rig.memory.untouched(), out)
     }
 
-    // The last piece is a line too, if it has no newline behind it.
-    pub fn finish<W: Write>(mut self, out: &mut W) -> io::Result<()> {
-        if self.line.has_begun() {
-            self.end_line(out)?;
-        }
-        sheet::write_tally(&self.tally, out)?;
-        sheet::write_end(self.rig.memory.untouched(), out)
-    }
-
-    fn end_line<W: Write>(&mut self, out: &mut W) -> io::Result<()> {
-        self.tally.line();
-        let line = std::mem::replace(&mut self.line, Line::new(self.heap));
-        if script::is_comment(line.kept()) {
-            return Ok(());
-        }
-        match script::text(&line) {
-            Ok(text) => self.go_through(text, out),
-            Err(fault) => self.pass_over(fault, out),
-        }
-    }
-
-    fn go_through<W: Write>(&mut self, text: &str, out: &mut W) -> io::Result<()> {
+    fn go_through(&mut self, text: &str) -> io::Result<()> {
         let words: Vec<&str> = text.split_ascii_whitespace().collect(self.heap)?;
         match script::read(words.as_slice()) {
             Ok(None) => Ok(()),
-            Ok(Some(call)) => self.perform(call, out),
-            Err(fault) => self.pass_over(fault, out),
+            Ok(Some(call)) => self.perform(call),
+            Err(fault) => self.pass_over(fault),
         }
     }
 
-    fn pass_over<W: Write>(&mut self, fault: Fault<'_>, out: &mut W) -> io::Result<()> {
+    fn pass_over(&mut self, fault: Fault<'_>) -> io::Result<()> {
         self.tally.fault();
-        asked::write_fault(self.tally.lines, fault, out)
+        asked::write_fault(self.tally.lines, fault, self.out)
     }
 
-    fn perform<W: Write>(&mut self, call: Call, out: &mut W) -> io::Result<()> {
-        asked::write_call(self.tally.lines, call, out)?;
+    fn perform(&mut self, call: Call) -> io::Result<()> {
+        asked::write_call(self.tally.lines, call, self.out)?;
         match call {
-            Call::Open(point) => self.open(point, out),
+            Call::Open(point) => self.open(point),
             Call::Post(reading) => {
                 let answer = self.rig.post(reading);
-                self.show_hour(reading.hour, answer, out)
+                self.show_hour(reading.hour, answer)
             }
             Call::Amend(reading) => {
                 let answer = self.rig.amend(reading);
-                self.show_hour(reading.hour, answer, out)
+                self.show_hour(reading.hour, answer)
             }
             Call::Choose(subscription) => {
                 let answer = self.rig.choose(subscription);
-                answered::write_answer(&answer, out)?;
-                self.settle(answer, out)
+                answered::write_answer(&answer, self.out)?;
+                self.settle(answer)
             }
             Call::Missing { number } => {
                 let answer = self.rig.missing(number);
-                answered::write_count(answer, out)?;
-                self.settle(answer.map(|_| Touched::nothing()), out)
+                answered::write_count(answer, self.out)?;
+                self.settle(answer.map(|_| Touched::nothing()))
             }
-            Call::Lend { records, words } => self.lend(records, words, out),
+            Call::Lend { records, words } => self.lend(records, words),
         }
     }
 
-    fn open<W: Write>(&mut self, point: Point, out: &mut W) -> io::Result<()> {
+    fn open(&mut self, point: Point) -> io::Result<()> {
         let answer = self.rig.open(point);
-        answered::write_answer(&answer, out)?;
-        held::write_opened(&self.rig.memory, out)?;
-        answered::write_missing(13, self.rig.missing(13), out)?;
-        self.settle(answer, out)
+        answered::write_answer(&answer, self.out)?;
+        held::write_opened(&self.rig.memory, self.out)?;
+        answered::write_missing(13, self.rig.missing(13), self.out)?;
+        self.settle(answer)
     }
 
     // The record and the word of an hour, and what its month lacks.
-    fn show_hour<W: Write>(
-        &mut self,
-        hour: u16,
-        answer: Result<Touched, BookRefusal>,
-        out: &mut W,
-    ) -> io::Result<()> {
-        answered::write_answer(&answer, out)?;
-        held::write_record(hour, &self.rig.memory, out)?;
-        held::write_bit(hour, &self.rig.memory, out)?;
+    fn show_hour(&mut self, hour: u16, answer: Result<Touched, BookRefusal>) -> io::Result<()> {
+        answered::write_answer(&answer, self.out)?;
+        held::write_record(hour, &self.rig.memory, self.out)?;
+        held::write_bit(hour, &self.rig.memory, self.out)?;
         match self.rig.month_of(hour) {
             Some(month) => {
-                answered::write_missing(month.number, self.rig.missing(month.number), out)?
+                answered::write_missing(month.number, self.rig.missing(month.number), self.out)?
             }
-            None => answered::write_no_month(out)?,
+            None => answered::write_no_month(self.out)?,
         }
-        self.settle(answer, out)
+        self.settle(answer)
     }
 
-    fn lend<W: Write>(&mut self, records: u16, words: u16, out: &mut W) -> io::Result<()> {
+    fn lend(&mut self, records: u16, words: u16) -> io::Result<()> {
         let answer = self.rig.lend(records, words);
         if answer.is_err() {
             self.tally.fault();
         }
-        answered::write_lent(answer, out)
+        answered::write_lent(answer, self.out)
     }
 
     // Compares all the memory that the call may not have touched.
-    fn settle<W: Write>(
-        &mut self,
-        answer: Result<Touched, BookRefusal>,
-        out: &mut W,
-    ) -> io::Result<()> {
+    fn settle(&mut self, answer: Result<Touched, BookRefusal>) -> io::Result<()> {
         let touched = match answer {
             Ok(touched) => {
                 self.tally.accepted();
@@ -154,6 +126,25 @@ impl Session {
         };
         let compared = self.rig.memory.others(&touched);
         self.rig.memory.follow(&touched);
-        sheet::write_others(compared, out)
+        sheet::write_others(compared, self.out)
+    }
+}
+
+impl<W: Write> Lines for Session<'_, W> {
+    fn push(&mut self, byte: u8) -> io::Result<()> {
+        self.line.push(byte)?;
+        Ok(())
+    }
+
+    fn end_line(&mut self) -> io::Result<()> {
+        self.tally.line();
+        let line = std::mem::replace(&mut self.line, Line::new(self.heap));
+        if script::is_comment(line.kept()) {
+            return Ok(());
+        }
+        match script::text(&line) {
+            Ok(text) => self.go_through(text),
+            Err(fault) => self.pass_over(fault),
+        }
     }
 }

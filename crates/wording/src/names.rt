@@ -1,4 +1,5 @@
 // Numbers of the service line with the names that people give them.
+use calendar::Month;
 use std::fmt;
 
 // A number with its name, as `3 Southern`. A line may hold any number, so what names nothing is `unknown`.
@@ -32,32 +33,22 @@ fn connection_name(connection: u8) -> &'static str {
     }
 }
 
-fn invoice_name(number: u8) -> &'static str {
-    match number {
-        1 => "January",
-        2 => "February",
-        3 => "March",
-        4 => "April",
-        5 => "May",
-        6 => "June",
-        7 => "July",
-        8 => "August",
-        9 => "September",
-        10 => "October",
-        11 => "November",
-        12 => "December",
-        13 => "the whole year",
-        _ => "unknown",
+impl fmt::Display for Named {
+    fn fmt<W: fmt::Write>(&self, f: &mut fmt::Formatter<W>) -> fmt::Result {
+        match *self {
+            Named::Area(area) => write!(f, "{area} {}", area_name(area)),
+            Named::Connection(connection) => {
+                write!(f, "{connection} {}", connection_name(connection))
+            }
+            Named::Invoice(number) => write_invoice(number, f),
+        }
     }
 }
 
-impl fmt::Display for Named {
-    fn fmt<W: fmt::Write>(&self, f: &mut fmt::Formatter<W>) -> fmt::Result {
-        let (number, name) = match *self {
-            Named::Area(area) => (area, area_name(area)),
-            Named::Connection(connection) => (connection, connection_name(connection)),
-            Named::Invoice(number) => (number, invoice_name(number)),
-        };
-        write!(f, "{number} {name}")
+fn write_invoice<W: fmt::Write>(number: u8, f: &mut fmt::Formatter<W>) -> fmt::Result {
+    match Month::new(number) {
+        Some(month) => write!(f, "{number} {month}"),
+        None if number == 13 => write!(f, "{number} the whole year"),
+        None => write!(f, "{number} unknown"),
     }
 }
