@@ -1,23 +1,18 @@
--- The first row that fails a test: how a scan finds it, and that all rows pass where there is none.
-use Rattle.std.proofs.Common.{◌≡◌, ℕ, zero, suc, ◌+◌, ◌<◌, ◌≤◌, Bool, true, false, cond, List, [], ◌∷◌, length, get_or, drop, Some, None, sym, ap, ◌∙◌, inl, inr, add-one, arith}
-use Rattle.std.proofs.lemmas.List.{at_drop_all, at_drop_more}
+-- The first row that fails a test: where a search finds it, and that all rows pass where there is none.
+use Rattle.std.proofs.Common.{◌≡◌, ℕ, zero, suc, Bool, true, false, cond, not, List, [], ◌∷◌, get_or, Option, Some, None, refl, sym, ap, ◌∙◌, inl, inr, add-one, arith}
+use Rattle.std.specs.List.{position_from}
 use Rattle.std.proofs.lemmas.Bool.{cases_Bool}
 use Rattle.bills.specs.Ranges.{first_failing}
 
-module _ {X : Type 0} (test : X → Bool) (rows : List X) (i : ℕ) (d : X) where
-  step : i < length rows → first_failing test i (drop i rows) ≡ cond (test (get_or rows i d)) (first_failing test (suc i) (drop (i + 1) rows)) (Some i)
-  step lt = at_drop_more (λ l. first_failing test i l) rows i d lt
+turned : {X : Type 0} (t : Bool) (a b : X) → cond (not t) a b ≡ cond t b a
+turned true a b = refl
+turned false a b = refl
 
-  pub failing_here : i < length rows → test (get_or rows i d) ≡ false → first_failing test i (drop i rows) ≡ Some i
-  failing_here lt fails = step lt ∙ ap (λ (t : Bool). cond t (first_failing test (suc i) (drop (i + 1) rows)) (Some i)) fails
-
-  pub failing_later : i < length rows → test (get_or rows i d) ≡ true → first_failing test (i + 1) (drop (i + 1) rows) ≡ first_failing test i (drop i rows)
-  failing_later lt passes =
-      ap (λ (k : ℕ). first_failing test k (drop (i + 1) rows)) (add-one i)
-      ∙ sym (step lt ∙ ap (λ (t : Bool). cond t (first_failing test (suc i) (drop (i + 1) rows)) (Some i)) passes)
-
-  pub failing_none : length rows ≤ i → first_failing test i (drop i rows) ≡ None
-  failing_none past = at_drop_all (λ l. first_failing test i l) rows i past
+pub failing_position : {X : Type 0} (test : X → Bool) (n : ℕ) (rows : List X) → position_from (λ x. not (test x)) n rows ≡ first_failing test n rows
+failing_position test n [] = refl
+failing_position test n (row ∷ rows) =
+    ap (λ (o : Option ℕ). cond (not (test row)) (Some n) o) (ap (λ (k : ℕ). position_from (λ x. not (test x)) k rows) (add-one n) ∙ failing_position test (suc n) rows)
+    ∙ turned (test row) (Some n) (first_failing test (suc n) rows)
 
 -- where none fails, the first passes, and none of the others fails
 pass_first : {X : Type 0} (test : X → Bool) (n : ℕ) (row : X) (rows : List X) → first_failing test n (row ∷ rows) ≡ None → (test row ≡ true) × (first_failing test (suc n) rows ≡ None)

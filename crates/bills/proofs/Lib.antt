@@ -3,5 +3,6 @@ pub mod Sums
 pub mod Years
 pub mod Rounds
 pub mod Highest
-pub mod Filling
+pub mod MonthSums
+pub mod Making
 pub mod Failing

@@ -10,9 +10,9 @@ mod standing;
 mod tests;
 mod year;
 
-pub use energy::{Energy, energy_amount};
+pub use energy::energy_amount;
 pub use months::totals_of_month;
 pub use ranges::{cap_fits, fee_fits, percentage_fits, price_fits, rate_fits};
 pub use share::{month_share, twelfth};
-pub use standing::{Extras, StandingRates, rated};
+pub use standing::{Extras, StandingRates, Subscribed, rated};
 pub use year::{MonthTotals, YearTotals};

@@ -1,4 +1,4 @@
-// The ranges of a sheet's numbers.
+// The ranges of a sheet's numbers. They differ in a constant, but a sheet is tested by their names.
 ghost use Rattle.std.specs.Prelude.{◌≡◌};
 ghost use Rattle.bills.specs.Ranges.{cap_fits, fee_fits, percentage_fits, price_fits, rate_fits, standing_fits};
 
@@ -22,7 +22,7 @@ pub fn rate_fits(rate: u32) -> bool
 pub fn price_fits(price: i32) -> bool
     ensures fits { result ≡ price_fits price }
 {
-    -100_000 <= price && price <= 100_000
+    (-100_000..=100_000).contains(&price)
 }
 
 // A free percentage: a multiple of 5.

@@ -1,6 +1,6 @@
 // Yearly amounts in twelve parts, lines 1 to 4 and the months of a year, worked by hand; which part of a yearly amount bears
 // an odd hundredth is undecided.
-use super::{Extras, StandingRates, YearTotals, energy_amount, month_share, twelfth};
+use super::{Extras, StandingRates, Subscribed, YearTotals, energy_amount, month_share, twelfth};
 use calendar::{Calendar, Month, Year};
 use hours::{HourRecord, Peak};
 use std::test::Fail;
@@ -37,15 +37,19 @@ fn yearly_amounts(rt: HostRuntime) {
         power_rate: 25_000,
         extra_rate: 3_000,
     };
-    let extras = Extras {
-        withdrawal: 7,
-        input: 9,
+    let subscribed = Subscribed {
+        kw: 1_000,
+        extras: Extras {
+            withdrawal: 7,
+            input: 9,
+        },
     };
-    assert_eq!(rt; rates.yearly(extras, 1_000, 1), 1_000_000_000);
-    assert_eq!(rt; rates.yearly(extras, 1_000, 2), 2_500_000_000);
-    assert_eq!(rt; rates.yearly(extras, 1_000, 3), 2_100_000);
-    assert_eq!(rt; rates.yearly(extras, 1_000, 4), 2_700_000);
-    assert_eq!(rt; rates.yearly(extras, 1_000, 5), 0);
+    let yearly = rates.yearly(subscribed);
+    assert_eq!(rt; yearly[0], 1_000_000_000);
+    assert_eq!(rt; yearly[1], 2_500_000_000);
+    assert_eq!(rt; yearly[2], 2_100_000);
+    assert_eq!(rt; yearly[3], 2_700_000);
+    assert_eq!(rt; yearly.get(4).copied().unwrap_or(0), 0);
     assert_eq!(rt; energy_amount(10, -170), -1_700);
     assert_eq!(rt;
         energy_amount(u32::MAX, i32::MIN),
@@ -74,7 +78,7 @@ fn the_two_highest_come_from_different_months(rt: HostRuntime) -> Result<(), Fai
     assert_eq!(rt; months.two_highest(Peak::Drawn), 1_400);
     assert_eq!(rt; months.two_highest(Peak::ReactiveFedIn), 40);
     assert_eq!(rt; months.sum_of(Peak::Drawn), 1_400);
-    assert_eq!(rt; months.energy().peak_load_kwh, 0);
-    assert_eq!(rt; months.energy().other_kwh, 2_200);
+    assert_eq!(rt; months.energy().peak_load, 0);
+    assert_eq!(rt; months.energy().other, 2_200);
     Ok(())
 }

@@ -6,8 +6,6 @@ use Rattle.bills.specs.Ranges.{fee_fits, first_failing, percentage_fits, price_f
 use Rattle.normal_sheet.specs.declared.sheet.NormalSheet.{NormalSheet}
 use Rattle.normal_sheet.specs.declared.sheet.Row.{Row}
 use Rattle.normal_sheet.specs.declared.sheet.Supplement.{Supplement}
-use Rattle.normal_sheet.specs.declared.check.RowTest.{RowTest}
-use Rattle.normal_sheet.specs.declared.check.RowTest.TheVariants.{Prices, Percentages}
 use Rattle.normal_sheet.specs.Levels.{no_supplement}
 
 abbrev pub prices_fit : Row → Bool
@@ -19,10 +17,6 @@ prices_fit r =
 abbrev pub percentages_fit : Row → Bool
 percentages_fit r = percentage_fits r.free_withdrawal && percentage_fits r.free_input
 
-abbrev pub passes : RowTest → Row → Bool
-passes Prices r = prices_fit r
-passes Percentages r = percentages_fit r
-
 abbrev pub supplement_fits : Supplement → Bool
 supplement_fits s = fee_fits s.fixed_fee && rate_fits s.power_rate
 
@@ -32,9 +26,9 @@ supplements_answer ss = cond (supplement_fits (slice_index_or ss 0 no_supplement
 
 abbrev pub sheet_answer : NormalSheet → Result (Unit {0}) TariffRefusal
 sheet_answer sheet =
-    row_answer OutOfRange (first_failing (passes Prices) 0 sheet.rows)
+    row_answer OutOfRange (first_failing prices_fit 0 sheet.rows)
     then supplements_answer sheet.supplements
-    then row_answer Percentage (first_failing (passes Percentages) 0 sheet.rows)
+    then row_answer Percentage (first_failing percentages_fit 0 sheet.rows)
 
 unfoldable pub in_order : NormalSheet → Bool
 in_order sheet = is_ok (sheet_answer sheet)

@@ -1,42 +1,30 @@
 // The test of a sheet: every row of it, offered or not.
-ghost use Rattle.std.specs.Prelude.{◌≡◌};
-ghost use Rattle.refusals.specs.declared.tariff.TariffRefusal.TheVariants.{OutOfRange, Percentage};
-ghost use Rattle.bills.specs.Ranges.{first_failing, row_answer};
-ghost use Rattle.normal_sheet.specs.Ranges.{passes, percentages_fit, prices_fit, sheet_answer, supplement_fits, supplements_answer};
-ghost use Rattle.normal_sheet.specs.declared.check.RowTest.TheVariants.{Percentages, Prices};
+ghost use Rattle.std.specs.Prelude.{◌≡◌, Bool};
+ghost use Rattle.std.specs.Fn.{FnReturnsAt};
+ghost use Rattle.bills.specs.Ranges.{first_failing};
+ghost use Rattle.normal_sheet.specs.declared.sheet.Row.{Row};
+ghost use Rattle.normal_sheet.specs.Ranges.{percentages_fit, prices_fit, sheet_answer, supplement_fits};
 
 use crate::sheet::{NormalSheet, Row, Supplement};
 use bills::{fee_fits, percentage_fits, price_fits, rate_fits};
 use refusals::TariffRefusal;
 
-// What a row is tested for.
-#[derive(Clone, Copy)]
-pub(crate) enum RowTest {
-    Prices,
-    Percentages,
-}
-
-impl RowTest {
-    fn passes(self, row: &Row) -> bool
-        ensures passes { result ≡ passes self row.now }
+impl Row {
+    fn prices_fit(&self) -> bool
+        ensures fit { result ≡ prices_fit self.now }
     {
-        match self {
-            RowTest::Prices => prices_fit(row),
-            RowTest::Percentages => {
-                percentage_fits(row.free_withdrawal) && percentage_fits(row.free_input)
-            }
-        }
+        self.standing.fit()
+            && price_fits(self.peak_load_price)
+            && price_fits(self.other_price)
+            && rate_fits(self.active_excess_rate)
+            && rate_fits(self.reactive_excess_rate)
     }
-}
 
-fn prices_fit(row: &Row) -> bool
-    ensures fit { result ≡ prices_fit row.now }
-{
-    row.standing.fit()
-        && price_fits(row.peak_load_price)
-        && price_fits(row.other_price)
-        && rate_fits(row.active_excess_rate)
-        && rate_fits(row.reactive_excess_rate)
+    fn percentages_fit(&self) -> bool
+        ensures fit { result ≡ percentages_fit self.now }
+    {
+        percentage_fits(self.free_withdrawal) && percentage_fits(self.free_input)
+    }
 }
 
 impl Supplement {
@@ -47,49 +35,25 @@ impl Supplement {
     }
 }
 
-fn first_failing(rows: &[Row; 7], test: RowTest) -> Option<u8>
-    ensures first { result ≡ first_failing (passes test) 0 rows.now }
+fn first_failing<F: Fn(&Row) -> bool>(rows: &[Row; 7], fits: F) -> Option<u8>
+    requires { F.IsAlwaysCallable fits }
+    ensures first { (test : Row → Bool) → ((row : Row) (fit : Bool) → FnReturnsAt F.Fn fits row fit → fit ≡ test row) → result ≡ first_failing test 0 rows.now }
 {
-    for i in 0..7 {
-        if !test.passes(&rows[i]) {
-            return Some(i as u8);
-        }
-    }
-    None
+    let place = rows.iter().position(|row| !fits(row));
+    place.map(|place| place as u8)
 }
 
 impl NormalSheet {
     pub fn check(&self) -> Result<(), TariffRefusal>
         ensures answer { result ≡ sheet_answer self.now }
     {
-        self.check_prices()?;
-        self.check_supplements()?;
-        self.check_percentages()
-    }
-
-    fn check_prices(&self) -> Result<(), TariffRefusal>
-        ensures answer { result ≡ row_answer OutOfRange (first_failing (passes Prices) 0 self.now.rows) }
-    {
-        match first_failing(&self.rows, RowTest::Prices) {
-            Some(row) => Err(TariffRefusal::OutOfRange { row }),
-            None => Ok(()),
+        if let Some(row) = first_failing(&self.rows, Row::prices_fit) {
+            return Err(TariffRefusal::OutOfRange { row });
         }
-    }
-
-    fn check_supplements(&self) -> Result<(), TariffRefusal>
-        ensures answer { result ≡ supplements_answer self.now.supplements }
-    {
-        if self.supplements[0].fits() && self.supplements[1].fits() {
-            Ok(())
-        } else {
-            Err(TariffRefusal::OutOfRange { row: 7 })
+        if !self.supplements.iter().all(Supplement::fits) {
+            return Err(TariffRefusal::OutOfRange { row: 7 });
         }
-    }
-
-    fn check_percentages(&self) -> Result<(), TariffRefusal>
-        ensures answer { result ≡ row_answer Percentage (first_failing (passes Percentages) 0 self.now.rows) }
-    {
-        match first_failing(&self.rows, RowTest::Percentages) {
+        match first_failing(&self.rows, Row::percentages_fit) {
             Some(row) => Err(TariffRefusal::Percentage { row }),
             None => Ok(()),
         }

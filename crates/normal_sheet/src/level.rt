@@ -8,29 +8,7 @@ use crate::sheet::{NormalSheet, Row, Supplement};
 use bills::StandingRates;
 use refusals::TariffRefusal;
 
-impl Row {
-    // What stands past the last row: it is not offered.
-    pub(crate) fn none() -> Row
-        ensures none { result ≡ no_row }
-    {
-        Row {
-            offered: false,
-            standing: StandingRates {
-                fixed_fee: 0,
-                power_rate: 0,
-                extra_rate: 0,
-            },
-            peak_load_price: 0,
-            other_price: 0,
-            active_excess_rate: 0,
-            reactive_excess_rate: 0,
-            free_withdrawal: 0,
-            free_input: 0,
-        }
-    }
-}
-
-// Choices 7 and 8 are T1 and T12 with a supplement.
+// Choices 7 and 8 are T1 and T12 with a supplement; choices and rows are numbers on a sheet and in a question to a tariff.
 fn row_number(choice: u8) -> u8
     ensures row { result ≡ row_number choice }
 {
@@ -41,14 +19,11 @@ fn row_number(choice: u8) -> u8
     }
 }
 
+// Past the last row stands none, which is not offered.
 fn row_at(rows: &[Row; 7], number: u8) -> Row
     ensures row { result ≡ slice_index_or rows.now number no_row }
 {
-    if number < 7 {
-        rows[number as usize]
-    } else {
-        Row::none()
-    }
+    rows.get(usize::from(number)).copied().unwrap_or_default()
 }
 
 impl NormalSheet {
@@ -58,10 +33,7 @@ impl NormalSheet {
         match choice {
             7 => self.supplements[0],
             8 => self.supplements[1],
-            _ => Supplement {
-                fixed_fee: 0,
-                power_rate: 0,
-            },
+            _ => Supplement::default(),
         }
     }
 }

@@ -14,10 +14,7 @@ use normal_sheet::{CheckedSheet, Used};
 fn is_on_normal(connection: Connection) -> bool
     ensures on { result ≡ on_normal connection }
 {
-    match connection {
-        Connection::L110In | Connection::L33In => false,
-        _ => true,
-    }
+    !matches!(connection, Connection::L110In | Connection::L33In)
 }
 
 // Whether the choice is open to the connection and offered.

@@ -5,8 +5,9 @@ ghost use Rattle.bills.specs.Months.{month_in, total_to};
 ghost use Rattle.normal_sheet.specs.Lines.{two_highest};
 ghost use Rattle.normal_tariff.specs.Meaning.{permitted_to};
 
-use bills::{Energy, Extras, YearTotals};
+use bills::{Extras, YearTotals};
 use book::Connection;
+use hours::Energy;
 use normal_sheet::{CheckedSheet, Used};
 
 // What the months come to, and what the year comes to beside it, so that a charge need not go through the months.
@@ -26,6 +27,6 @@ pub struct NormalYear {
     ghost drawn: { used.drawn ≡ two_highest Drawn (month_in months.months) },
     ghost reactive_drawn: { used.reactive_drawn ≡ two_highest ReactiveDrawn (month_in months.months) },
     ghost reactive_fed_in: { used.reactive_fed_in ≡ two_highest ReactiveFedIn (month_in months.months) },
-    ghost peak_load: { energy.peak_load_kwh ≡ total_to 12 (λ m. (month_in months.months m).peak_load_kwh) },
-    ghost other: { energy.other_kwh ≡ total_to 12 (λ m. (month_in months.months m).other_kwh) },
+    ghost peak_load: { energy.peak_load ≡ total_to 12 (λ m. (month_in months.months m).peak_load_kwh) },
+    ghost other: { energy.other ≡ total_to 12 (λ m. (month_in months.months m).other_kwh) },
 }
