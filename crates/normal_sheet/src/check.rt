@@ -35,6 +35,7 @@ impl Supplement {
     }
 }
 
+// The number of the first row that fails a test.
 fn first_failing<F: Fn(&Row) -> bool>(rows: &[Row; 7], fits: F) -> Option<u8>
     requires { F.IsAlwaysCallable fits }
     ensures first { (test : Row → Bool) → ((row : Row) (fit : Bool) → FnReturnsAt F.Fn fits row fit → fit ≡ test row) → result ≡ first_failing test 0 rows.now }

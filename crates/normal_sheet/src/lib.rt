@@ -8,6 +8,8 @@ mod level;
 mod lines;
 mod published;
 mod sheet;
+#[cfg(test)]
+mod tests;
 mod used;
 
 pub use checked::CheckedSheet;

@@ -3,6 +3,8 @@
 
 mod making;
 mod tariff_of;
+#[cfg(test)]
+mod tests;
 mod year;
 
 pub use year::NormalYear;

@@ -1,5 +1,5 @@
 -- The place of the first row that fails is the position of the first at which the test's opposite passes.
-use Rattle.std.proofs.Common.{◌≡◌, Bool, not, sym, ap, ◌∙◌, rules, tests}
+use Rattle.std.proofs.Common.{◌≡◌, Bool, not, ap, ◌∙◌, rules, tests}
 use Rattle.std.proofs.lemmas.Iterator.{YieldsList-from_slice}
 use Rattle.std.proofs.lemmas.Iterator.Adapters.{position_from-zero}
 use Rattle.std.proofs.lemmas.Iterator.Search.{position_from_yields_List}
