@@ -2,6 +2,7 @@
 use Rattle.std.specs.Prelude.{ℕ, ◌*◌, true, List, [], ◌∷◌, ℤ, pos, ◌*ℤ◌, neg_ℤ}
 use Rattle.book.specs.declared.point.Area.{Area}
 use Rattle.book.specs.declared.point.Area.TheVariants.{Norrbotten, MiddleNorrland, Southern}
+use Rattle.book.specs.Points.{area_number}
 use Rattle.normal_sheet.specs.declared.sheet.NormalSheet.{NormalSheet}
 use Rattle.normal_sheet.specs.declared.sheet.Row.{Row}
 use Rattle.normal_sheet.specs.declared.sheet.Supplement.{Supplement}
@@ -53,11 +54,6 @@ rows_of Southern =
     ∷ row_of 1600 78 (pos 49) (pos 14) 20 15 5
     ∷ row_of 25 265 (pos 156) (pos 87) 35 50 15
     ∷ []
-
-abbrev pub area_number : Area → ℕ
-area_number Norrbotten = 1
-area_number MiddleNorrland = 2
-area_number Southern = 3
 
 -- SEK 900,000 and SEK 11 for each kW, SEK 1,300,000 and SEK 42 for each kW
 abbrev pub supplements : List Supplement

@@ -1,6 +1,6 @@
 // The sheets of 2022 for the three areas.
 ghost use Rattle.std.specs.Prelude.{◌≡◌, ◌≤◌, pos, neg_ℤ, ◌≤ℤ◌};
-ghost use Rattle.normal_sheet.specs.Published.{area_number, row_of, rows_of, sheet_2022};
+ghost use Rattle.normal_sheet.specs.Published.{row_of, rows_of, sheet_2022};
 
 use crate::sheet::{NormalSheet, Row, Supplement};
 use bills::StandingRates;
@@ -63,22 +63,12 @@ fn rows(area: Area) -> [Row; 7]
     }
 }
 
-fn area_number(area: Area) -> u8
-    ensures number { result ≡ area_number area }
-{
-    match area {
-        Area::Norrbotten => 1,
-        Area::MiddleNorrland => 2,
-        Area::Southern => 3,
-    }
-}
-
 impl NormalSheet {
     pub fn published_2022(area: Area) -> NormalSheet
         ensures sheet { result ≡ sheet_2022 area }
     {
         NormalSheet {
-            area: area_number(area),
+            area: u8::from(area),
             rows: rows(area),
             supplements: [
                 Supplement {
