@@ -1,3 +1,4 @@
+pub mod Clips
 pub mod Counted
 pub mod Absent
 pub mod Energies

@@ -21,8 +21,8 @@ use std::io;
 use std::io::{BufWriter, Read, Write};
 
 fn run<R: Read, W: Write>(heap: Global, input: &mut R, out: &mut W) -> io::Result<()> {
-    sheet::write_header(out)?;
     let mut session = Session::new(heap, out)?;
+    session.begin()?;
     read_lines(input, &mut session)?;
     session.finish()
 }

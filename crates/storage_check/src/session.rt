@@ -31,6 +31,10 @@ impl<'a, W: Write> Session<'a, W> {
         })
     }
 
+    pub fn begin(&mut self) -> io::Result<()> {
+        sheet::write_header(self.out)
+    }
+
     pub fn finish(self) -> io::Result<()> {
         let Session {
             out,
