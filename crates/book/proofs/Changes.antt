@@ -1,4 +1,4 @@
--- Read as a plain book, the memory after a call is the plain book before it with exactly the accepted change.
+-- Read as a plain book, the memory after an accepted call is the plain book before it with exactly the accepted change.
 use Rattle.std.proofs.Common.{◌≡◌, ℕ, ◌/◌, ◌<◌, ◌≤◌, Bool, true, false, cond, ◌&&◌, ltb, ◌≢◌, List, length, get_or, set, ℤ, Some, None, Ok, Err, Option, sym, refl, ap, ◌∙◌, ap₂, inl, inr, arith}
 use mathlib.Core.Path.{fun_ext}
 use Rattle.std.proofs.lemmas.List.{get_or-set_other, get_or-set_same}
@@ -16,7 +16,7 @@ use Rattle.book.specs.Memory.{blank, has_value, read, state, value_at}
 use Rattle.book.specs.Plain.{◌then◌, opened, place_answer, Plain, plain, put}
 
 -- tests that all pass have each passed
-passed : {X Y : Type 0} (first : Answer X) (next : X → Answer Y) (y : Y) → (first then next) ≡ Ok y → (x : X) × (first ≡ Ok x) × (next x ≡ Ok y)
+pub passed : {X Y : Type 0} (first : Answer X) (next : X → Answer Y) (y : Y) → (first then next) ≡ Ok y → (x : X) × (first ≡ Ok x) × (next x ≡ Ok y)
 passed (Ok x) next y e = (x, refl, e)
 passed (Err f) next y e = cc
 
@@ -93,17 +93,17 @@ never_placed n m h v u e =
     let a = passed (memory_answer n m) _ u e in
     let refused = a.2 in cc
 
-pub post_law : (b : Option Opening) (rs : List HourRecord) (ws : List ℕ) (h : ℕ) (v : HourRecord) (u : Unit {0}) → Ok u ≡ place_answer (length rs) (length ws) b h v
+pub post_accepted : (b : Option Opening) (rs : List HourRecord) (ws : List ℕ) (h : ℕ) (v : HourRecord) (u : Unit {0}) → Ok u ≡ place_answer (length rs) (length ws) b h v
     → read (state b (set rs h v) (marked ws h)) ≡ plain b (put (value_at b rs ws) h v)
-post_law (Some o) rs ws h v u e = ap (plain (Some o)) (fun_ext (post_puts o rs ws h v (placed o rs ws h v u (sym e))))
-post_law None rs ws h v u e = absurd (never_placed (length rs) (length ws) h v u (sym e))
+post_accepted (Some o) rs ws h v u e = ap (plain (Some o)) (fun_ext (post_puts o rs ws h v (placed o rs ws h v u (sym e))))
+post_accepted None rs ws h v u e = absurd (never_placed (length rs) (length ws) h v u (sym e))
 
-pub amend_law : (b : Option Opening) (rs : List HourRecord) (ws : List ℕ) (h : ℕ) (v : HourRecord) (u : Unit {0}) → Ok u ≡ place_answer (length rs) (length ws) b h v → true ≡ has_value b ws h
+pub amend_accepted : (b : Option Opening) (rs : List HourRecord) (ws : List ℕ) (h : ℕ) (v : HourRecord) (u : Unit {0}) → Ok u ≡ place_answer (length rs) (length ws) b h v → true ≡ has_value b ws h
     → read (state b (set rs h v) ws) ≡ plain b (put (value_at b rs ws) h v)
-amend_law (Some o) rs ws h v u e there =
+amend_accepted (Some o) rs ws h v u e there =
     let bit = and_parts (ltb h (year_hours o.year)) (present ws h) (sym there) in
     ap (plain (Some o)) (fun_ext (amend_puts o rs ws h v (placed o rs ws h v u (sym e)) bit.1))
-amend_law None rs ws h v u e there = absurd (never_placed (length rs) (length ws) h v u (sym e))
+amend_accepted None rs ws h v u e there = absurd (never_placed (length rs) (length ws) h v u (sym e))
 
 -- no hour of a year has a value once its words are cleared
 nothing_left : (o : Opening) (rs : List HourRecord) (ws : List ℕ) (k : ℕ) → value_at (Some o) rs (cleared ws) k ≡ None
@@ -115,5 +115,5 @@ nothing_left o rs ws k = elim (cases_Bool (ltb k (year_hours o.year))) [
   | inr past ↦ ap (λ (s : Bool). cond (s && present (cleared ws) k) (Some (limited (get_or rs k blank))) None) past
 ]
 
-pub open_law : (o : Opening) (rs : List HourRecord) (ws : List ℕ) (a : Answer Opening) (p : Plain) → Ok o ≡ a → read (state (Some o) rs (cleared ws)) ≡ opened a p
-open_law o rs ws a p e = ap (plain (Some o)) (fun_ext (nothing_left o rs ws)) ∙ ap (λ (r : Answer Opening). opened r p) e
+pub open_accepted : (o : Opening) (rs : List HourRecord) (ws : List ℕ) (a : Answer Opening) (p : Plain) → Ok o ≡ a → read (state (Some o) rs (cleared ws)) ≡ opened a p
+open_accepted o rs ws a p e = ap (plain (Some o)) (fun_ext (nothing_left o rs ws)) ∙ ap (λ (r : Answer Opening). opened r p) e

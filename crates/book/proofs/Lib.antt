@@ -1,2 +1,3 @@
 pub mod Missing
 pub mod Changes
+pub mod Laws

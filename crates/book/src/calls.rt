@@ -45,7 +45,7 @@ impl Book {
     }
 
     // A first value for an hour.
-    #[tactic(auto, using(crate::proofs::Changes::post_law))]
+    #[tactic(auto, using(crate::proofs::Changes::post_accepted))]
     pub fn post(
         &self,
         records: &mut [HourRecord],
@@ -67,7 +67,7 @@ impl Book {
     }
 
     // A new value for an hour that has one.
-    #[tactic(auto, using(crate::proofs::Changes::amend_law))]
+    #[tactic(auto, using(crate::proofs::Changes::amend_accepted))]
     pub fn amend(
         &self,
         records: &mut [HourRecord],
