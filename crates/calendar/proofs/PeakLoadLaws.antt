@@ -1,8 +1,16 @@
 -- Laws of peak-load hours: how their number grows hour by hour, and part by part.
-use Rattle.std.proofs.Common.{◌≡◌, ℕ, zero, suc, ◌+◌, ◌≤◌, Bool, true, false, List, ◌∷◌, cond, length, filter, refl, add-zero, add-suc, one-add, arith}
+use Rattle.std.proofs.Common.{◌≡◌, ℕ, zero, suc, ◌+◌, ◌≤◌, Bool, true, false, List, ◌∷◌, cond, length, filter, refl, add-zero, add-one, add-suc, one-add, arith}
 use Rattle.std.proofs.lemmas.Bool.Decides.{nat_tests}
 use Rattle.std.specs.List.{range_with_len}
 use Rattle.calendar.specs.PeakLoad.{peak_load, peak_load_hours}
+
+pub peak_load_hours_none : (y h : ℕ) → peak_load_hours y h 0 ≡ 0
+unfolding peak_load_hours
+peak_load_hours_none y h = refl
+
+pub peak_load_hours_more : (y h n : ℕ) → peak_load_hours y h (n + 1) ≡ peak_load_hours y h n + cond (peak_load y (h + n)) 1 0
+unfolding peak_load_hours
+peak_load_hours_more y h n = rw add-one
 
 pub peak_load_hours_high : (y h n : ℕ) → peak_load_hours y h n ≤ n
 unfolding peak_load_hours

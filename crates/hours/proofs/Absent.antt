@@ -1,5 +1,5 @@
 -- The first absent hour of a part of the year: what it says of the hours before it, and what a search for it answers.
-use Rattle.std.proofs.Common.{◌≡◌, ℕ, zero, suc, ◌+◌, ◌-◌, ◌<◌, ◌≤◌, Bool, true, false, cond, Some, None, Option, sym, refl, ap, ◌∙◌, ap₂, inl, inr, arith}
+use Rattle.std.proofs.Common.{◌≡◌, ℕ, zero, suc, ◌+◌, ◌-◌, ◌<◌, ◌≤◌, Bool, true, false, cond, Some, None, Option, sym, refl, ap, ◌∙◌, ap₂, inl, inr, add-one, arith}
 use Rattle.std.specs.Option.{MatchOption}
 use Rattle.std.proofs.lemmas.Bool.{cases_Bool, cases_eq}
 use Rattle.hours.specs.Presence.{first_absent}
@@ -48,3 +48,14 @@ pub absent_found : (there : ℕ → Bool) (k e : ℕ) (r : Option ℕ) → k ≤
     → r ≡ first_absent there k (e - k)
 absent_found there k e None le all = sym (none_absent there k (e - k) (λ h ge lt. all h ge (omega arith)))
 absent_found there k e (Some i) le found = sym (found_at there k (e - k) i found.0 (let lt = found.1 in omega arith) found.2 found.3)
+
+-- one hour of a part: it is absent, or the part goes on behind it
+pub absent_here : (there : ℕ → Bool) (k n : ℕ) → 0 < n → there k ≡ false → first_absent there k n ≡ Some k
+absent_here there k zero lt gone = absurd (omega arith)
+absent_here there k (suc n) lt gone = ap (λ (t : Bool). cond t (first_absent there (suc k) n) (Some k)) gone
+
+pub absent_later : (there : ℕ → Bool) (k n m : ℕ) → n ≡ suc m → there k ≡ true → first_absent there (k + 1) m ≡ first_absent there k n
+absent_later there k n m e here =
+    ap (λ (j : ℕ). first_absent there j m) (add-one k)
+    ∙ sym (ap (λ (t : Bool). cond t (first_absent there (suc k) m) (Some k)) here)
+    ∙ ap (first_absent there k) (sym e)
