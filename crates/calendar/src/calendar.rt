@@ -15,7 +15,7 @@ pub struct Calendar {
     pub(crate) hours: u16,
     // the first hour after each month; entry 0 is 0
     pub(crate) month_ends: [u16; 13],
-    // the weekday of 1 January, 0 for Monday
+    // the weekday of 1 January, 0 for Monday: a number, since days are added to it
     pub(crate) first_weekday: u16,
     pub(crate) week_count: u8,
     pub(crate) easter_sunday: u16,

@@ -1,4 +1,5 @@
-// A day of a calendar's year: its number, and its first hour.
+// A day of a calendar's year: its number, and its first hour. Hours and days are two types, since each ends with a number of its
+// own.
 ghost use Rattle.std.specs.Prelude.{◌≡◌, ◌<◌, ◌≤◌};
 ghost use Rattle.std.specs.Option.{MatchOption};
 ghost use Rattle.calendar.specs.Days.{year_days};

@@ -1,4 +1,4 @@
-// The four flows that are measured at a connection.
+// The four flows that are measured at a connection; an enum and no closure, since clauses name them.
 ghost use Rattle.std.specs.Prelude.{◌≡◌, ◌≤◌};
 ghost use Rattle.hours.specs.Values.{flow_of, limited, positive};
 

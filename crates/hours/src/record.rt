@@ -41,7 +41,8 @@ pub fn write_record(records: &mut [HourRecord], hour: u16, value: HourRecord)
     }
 }
 
-// The records of a part of the year, as far as they are lent.
+// The records of a part of the year, as far as they are lent. Memory and part come side by side: the one is lent to a call, the
+// other is asked for.
 pub fn part(records: &[HourRecord], span: Span) -> &[HourRecord]
     ensures part { result.now ≡ between span.first span.end records.now }
     ensures few { length result.now ≤ 8784 }

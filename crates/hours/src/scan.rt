@@ -19,7 +19,7 @@ pub struct Totals {
     pub reactive_fed_in: u16,
 }
 
-// Which of the highest values.
+// Which of the highest values; an enum and no closure, since clauses name it.
 #[derive(Clone, Copy, PartialEq, Eq, Debug)]
 pub enum Peak {
     Drawn,
@@ -47,7 +47,7 @@ impl Totals {
         }
     }
 
-    // With one hour more.
+    // With one hour more. Its value counts either way; the flag tells as what.
     fn with(self, value: HourRecord, in_peak_load: bool) -> Totals
         requires room { self.peak_load_kwh + self.other_kwh ≤ 281088000 }
         ensures with { result ≡ with_hour self in_peak_load (limited value) }

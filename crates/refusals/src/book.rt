@@ -1,4 +1,4 @@
-// Layer 3: why the book refuses a call.
+// Layer 3: why the book refuses a call. What came in as a number and is refused stays that number.
 ghost use Rattle.std.specs.Prelude.{◌≡◌};
 ghost use Rattle.refusals.specs.Rows.{row, book_row, lent_place, quantity_place};
 
@@ -14,6 +14,7 @@ pub enum Lent {
 }
 
 impl Lent {
+    // Its place in the table of refusals, which is no number of the part anywhere else.
     pub(crate) fn place(&self) -> u32
         ensures place { result ≡ lent_place self.now }
     {
@@ -42,6 +43,7 @@ pub enum Quantity {
 }
 
 impl Quantity {
+    // Its place in the table of refusals, which is no number of the quantity anywhere else.
     pub(crate) fn place(&self) -> u32
         ensures place { result ≡ quantity_place self.now }
     {

@@ -1,4 +1,4 @@
-// Layer 2: why the bytes of a frame are no request.
+// Layer 2: why the bytes of a frame are no request. What is refused stays the byte that came in.
 ghost use Rattle.std.specs.Prelude.{◌≡◌};
 ghost use Rattle.refusals.specs.Rows.{row, frame_row};
 

@@ -42,7 +42,7 @@ pub enum Refusal {
 }
 
 impl Refusal {
-    // The layer that refuses: 1 line, 2 frame, 3 book, 4 tariff.
+    // The layer that refuses: 1 line, 2 frame, 3 book, 4 tariff. It is a number, since an answer's frame carries it.
     pub fn layer(&self) -> u8
         ensures layer { result ≡ (row_of self.now).layer }
     {

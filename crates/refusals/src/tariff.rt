@@ -1,4 +1,4 @@
-// Layer 4: why a sheet does not price the book.
+// Layer 4: why a sheet does not price the book. Areas, choices and rows are the numbers that an answer's frame carries.
 ghost use Rattle.std.specs.Prelude.{◌≡◌};
 ghost use Rattle.refusals.specs.Rows.{row, tariff_row};
 

@@ -1,4 +1,4 @@
-// What the unit answers; amounts are in hundredths of an öre.
+// What the unit answers; amounts are in hundredths of an öre. Choices and invoices are the numbers that were asked for.
 use refusals::Refusal;
 
 #[derive(Clone, Copy, PartialEq, Eq, Debug)]

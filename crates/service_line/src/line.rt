@@ -39,6 +39,7 @@ pub(crate) fn unhex<'a>(line: &[u8], buffer: &'a mut [u8; 32]) -> Result<&'a [u8
         return Err(LineRefusal::Length);
     }
     let (pairs, _) = line.as_chunks::<2>();
+    // By index: the column of a pair is told by its place.
     for (i, [high, low]) in pairs.iter().enumerate() {
         buffer[i] = byte(*high, *low, (2 * i + 1) as u8)?;
     }

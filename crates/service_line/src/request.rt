@@ -1,4 +1,5 @@
-// What a line asks of the unit.
+// What a line asks of the unit. Areas, connections, choices and invoices are numbers here: any may come, and the book refuses
+// what names nothing.
 #[derive(Clone, Copy, PartialEq, Eq, Debug)]
 pub enum Request {
     // A first value for an hour: active kWh and reactive kVArh, negative where fed in.

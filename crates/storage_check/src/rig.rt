@@ -57,6 +57,7 @@ impl Rig {
         Ok(Touched::hour(reading.hour))
     }
 
+    // It is lent the words to read, and a post to write: two calls, though they look alike.
     pub fn amend(&mut self, reading: Reading) -> Result<Touched, BookRefusal> {
         self.book.amend(
             self.memory.records.lent_mut(),

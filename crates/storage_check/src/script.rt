@@ -24,6 +24,7 @@ pub enum Call {
     Post(Reading),
     Amend(Reading),
     Choose(Subscription),
+    // A month from 1 on, or 13 for the year; the book may refuse it.
     Missing { number: u8 },
     // How much of the memory later calls are lent.
     Lend { records: u16, words: u16 },

@@ -45,7 +45,8 @@ pub fn write_tally<W: Write>(tally: &Tally, out: &mut W) -> io::Result<()> {
     )
 }
 
-// What no accepted call may have touched, from the first line to the last.
+// What no accepted call may have touched, from the first line to the last. The row has words of its own; what it shares with the
+// one above is `write_changed`.
 pub fn write_end<W: Write>(compared: Compared, out: &mut W) -> io::Result<()> {
     write!(
         out,
