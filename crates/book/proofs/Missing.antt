@@ -25,7 +25,7 @@ in_year : (o : Opening) (ws : List ℕ) (h : ℕ) → h < year_hours o.year → 
 in_year o ws h lt = ap (λ (t : Bool). t && present ws h) (lt-ltb h (year_hours o.year) lt)
 
 -- no part ends after the year
-end_hour_high : (y number : ℕ) → number ≤ 13 → end_hour y number ≤ year_hours y
+pub end_hour_high : (y number : ℕ) → number ≤ 13 → end_hour y number ≤ year_hours y
 end_hour_high y number le = by (eqb number 13) refl
   where
     by : (t : Bool) → eqb number 13 ≡ t → cond t (year_hours y) (month_end y number) ≤ year_hours y
@@ -33,14 +33,14 @@ end_hour_high y number le = by (eqb number 13) refl
     by false e = month_end_high y number (grind (arith, nat_tests))
 
 module _ (o : Opening) (rs : List HourRecord) (ws : List ℕ) (first n : ℕ) (inside : first + n ≤ year_hours o.year) where
-  absent_count : n - count (present ws) first n ≡ count (λ h. not (holds (read (state (Some o) rs ws)) h)) first n
+  pub absent_count : n - count (present ws) first n ≡ count (λ h. not (holds (read (state (Some o) rs ws)) h)) first n
   absent_count =
       let both = count_both (present ws) first n in
       let same : count (λ h. not (holds (read (state (Some o) rs ws)) h)) first n ≡ count (λ h. not (present ws h)) first n =
       count_alike _ _ first n (λ h ge lt. ap not (holds_reads (Some o) rs ws h ∙ in_year o ws h (omega arith))) in
       omega arith
 
-number_high : (number : ℕ) → fine ≡ number_answer number → number ≤ 13
+pub number_high : (number : ℕ) → fine ≡ number_answer number → number ≤ 13
 number_high number e = grind (arith, nat_tests)
 
 -- the tests of missing, all passed

@@ -3,3 +3,4 @@ pub mod Answers
 pub mod Periods
 pub mod Plain
 pub mod Memory
+pub mod Names

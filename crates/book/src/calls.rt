@@ -1,7 +1,7 @@
 // The calls on a book. Each is lent what it needs of the memory, and leaves all of it as it was if it refuses.
 // Records and words stay two loans: which of them a call may write is what its borrows promise, and it differs by call.
 // Areas, connections and numbers come in as bytes: any may come, and the refusal carries it. An hour and its value come
-// one by one, as the tests and the writes take them.
+// one by one: most tests and writes take the hour alone.
 ghost use Rattle.std.specs.Prelude.{◌≡◌, ℕ, List, length, None};
 ghost use Rattle.hours.specs.declared.record.HourRecord.{HourRecord};
 ghost use Rattle.book.specs.Memory.{after_amend, after_choose, after_open, after_post, done, read, state};

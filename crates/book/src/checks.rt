@@ -9,14 +9,8 @@ ghost use Rattle.book.specs.Points.{lawful};
 use super::account::{Opening, Subscription};
 use super::point::{Area, Connection};
 use calendar::{Year, year_hours};
-use hours::{HourRecord, is_present};
+use hours::{HourRecord, RECORDS, WORDS, is_present};
 use refusals::{BookRefusal, Lent, Quantity};
-
-// A caller lends at least a record for each hour of a leap year,
-const RECORDS: usize = 8_784;
-
-// and the words with a bit for each of these hours.
-const WORDS: usize = 138;
 
 // The most kWh or kVArh of an hour, either way.
 const MOST_VALUE: i16 = 32_000;

@@ -1,9 +1,12 @@
 // A connection point: its area and its connection.
 ghost use Rattle.std.specs.Prelude.{◌≡◌, Some};
+ghost use Rattle.std.specs.Fmt.{padded};
 ghost use Rattle.book.specs.Answers.{area_answer, connection_answer};
+ghost use Rattle.book.specs.Names.{area_name, connection_name};
 ghost use Rattle.book.specs.Points.{area_number, area_of, is_open, own_choice, top_of};
 
 use refusals::BookRefusal;
+use std::fmt;
 
 #[derive(Clone, Copy, PartialEq, Eq, Debug)]
 pub enum Area {
@@ -36,6 +39,20 @@ impl From<Area> for u8 {
             Area::MiddleNorrland => 2,
             Area::Southern => 3,
         }
+    }
+}
+
+impl fmt::Display for Area {
+    ghost output = { λ a. Some (area_name a) };
+
+    ghost styled_output = { λ a spec. Some (padded spec (area_name a)) };
+
+    fn fmt<W: fmt::Write>(&self, f: &mut fmt::Formatter<W>) -> fmt::Result {
+        f.pad(match self {
+            Area::Norrbotten => "Norrbotten",
+            Area::MiddleNorrland => "Middle Norrland",
+            Area::Southern => "Southern",
+        })
     }
 }
 
@@ -72,6 +89,26 @@ impl TryFrom<u8> for Connection {
     }
 }
 
+impl fmt::Display for Connection {
+    ghost output = { λ c. Some (connection_name c) };
+
+    ghost styled_output = { λ c spec. Some (padded spec (connection_name c)) };
+
+    fn fmt<W: fmt::Write>(&self, f: &mut fmt::Formatter<W>) -> fmt::Result {
+        f.pad(match self {
+            Connection::L1 => "L1",
+            Connection::T1 => "T1",
+            Connection::L2 => "L2",
+            Connection::T2 => "T2",
+            Connection::T12 => "T12",
+            Connection::T13 => "T13",
+            Connection::L110In => "L110In",
+            Connection::L33In => "L33In",
+        })
+    }
+}
+
+// A choice is a number of the tariff's own, and any may be asked for.
 impl Connection {
     // The choice that an opened book begins with.
     pub fn own_choice(self) -> u8

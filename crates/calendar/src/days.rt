@@ -34,7 +34,7 @@ impl Year {
         }
     }
 
-    // The days of the year up to the end of a month; none up to month 0.
+    // The days of the year up to the end of a month; none up to month 0, which is why the month is a number.
     pub(crate) fn days_to(self, month: u8) -> u16
         requires { month ≤ 12 }
         ensures days { result ≡ days_to self.number month }

@@ -16,7 +16,7 @@ pub(crate) fn read_year(text: &[u8]) -> Option<Year>
     Year::new(1000 * digit(*a)? + 100 * digit(*b)? + 10 * digit(*c)? + digit(*d)?)
 }
 
-// The value of a digit, or none.
+// The value of a digit, or none. `to_digit` is asked of a char and gives a u32, which is two conversions more.
 fn digit(byte: u8) -> Option<u16>
     ensures value { result ≡ provided (is_digit byte) (byte - 48) }
     ensures few { IfSome result (λ v. v ≤ 9) }

@@ -2,7 +2,7 @@
 use calendar::{Calendar, Month, Span, Year};
 use std::{fmt, io};
 
-// The days off, in the calendar's order.
+// The days off, in the calendar's order: it gives the days in a row, and each name has its place in it.
 const DAYS_OFF: [&str; 9] = [
     "New Year's Day",
     "Epiphany",

@@ -13,6 +13,6 @@ mod tests;
 pub use energy::{Energy, drawn_energy};
 pub use flow::Flow;
 pub use peak::highest;
-pub use presence::{clear, count_present, first_absent, is_present, mark};
-pub use record::{HourRecord, part, write_record};
+pub use presence::{WORDS, clear, count_present, first_absent, is_present, mark};
+pub use record::{HourRecord, RECORDS, part, write_record};
 pub use scan::{Peak, Totals, part_totals};

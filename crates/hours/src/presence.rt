@@ -4,6 +4,9 @@ ghost use Rattle.hours.specs.Presence.{cleared, count, first_absent, marked, pre
 
 use calendar::Span;
 
+// The words with a bit for each hour of a leap year.
+pub const WORDS: usize = 138;
+
 // A word, or 0 past those that are lent.
 fn word(words: &[u64], i: usize) -> u64
     ensures word { result ≡ slice_index words.now i }
@@ -34,7 +37,7 @@ pub fn mark(words: &mut [u64], hour: u16)
 pub fn clear(words: &mut [u64])
     ensures cleared { words.new ≡ cleared words.old }
 {
-    let end = words.len().min(138);
+    let end = words.len().min(WORDS);
     words[..end].fill(0);
 }
 

@@ -5,6 +5,9 @@ ghost use Rattle.hours.specs.Values.{limit, limited};
 
 use calendar::Span;
 
+// A record for each hour of a leap year.
+pub const RECORDS: usize = 8_784;
+
 // Active energy in kWh and reactive energy in kVArh; positive is drawn, negative fed in.
 #[derive(Clone, Copy, PartialEq, Eq, Debug)]
 pub struct HourRecord {

@@ -29,7 +29,7 @@ pub enum Peak {
 }
 
 impl Totals {
-    // What no hours come to.
+    // What no hours come to: the name by which clauses speak of the default.
     pub fn none() -> Totals
         ensures nothing { result ≡ nothing }
     {

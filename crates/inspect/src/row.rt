@@ -45,28 +45,19 @@ fn write_text<W: Write>(front: &[u8], out: &mut W) -> io::Result<()> {
     out.write_all(if front.len() > TEXT { b"..  " } else { b"    " })
 }
 
+// The columns of a request are this program's own.
 fn write_request<W: Write>(request: Request, out: &mut W) -> io::Result<()> {
     match request {
         Request::Post {
             hour,
             active,
             reactive,
-        } => {
-            writeln!(
-                out,
-                "post     hour {hour:>5}   active {active:>6} kWh   reactive {reactive:>6} kVArh"
-            )
-        }
+        } => write_hour("post", hour, active, reactive, out),
         Request::Amend {
             hour,
             active,
             reactive,
-        } => {
-            writeln!(
-                out,
-                "amend    hour {hour:>5}   active {active:>6} kWh   reactive {reactive:>6} kVArh"
-            )
-        }
+        } => write_hour("amend", hour, active, reactive, out),
         Request::Choose {
             choice,
             power,
@@ -94,6 +85,19 @@ fn write_request<W: Write>(request: Request, out: &mut W) -> io::Result<()> {
         Request::Advise => writeln!(out, "advise   no fields"),
         Request::Invoice { number } => writeln!(out, "invoice  number {}", Named::Invoice(number)),
     }
+}
+
+fn write_hour<W: Write>(
+    name: &str,
+    hour: u16,
+    active: i16,
+    reactive: i16,
+    out: &mut W,
+) -> io::Result<()> {
+    writeln!(
+        out,
+        "{name:<9}hour {hour:>5}   active {active:>6} kWh   reactive {reactive:>6} kVArh"
+    )
 }
 
 // The check is the line's last byte.

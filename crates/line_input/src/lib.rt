@@ -52,6 +52,7 @@ pub fn read_lines<R: Read, L: Lines>(input: &mut R, lines: &mut L) -> io::Result
 {
     let mut chunk = [0u8; 4096];
     let mut last = b'\n';
+    // Every loop is shown to end, so the chunks are counted.
     for _ in 0..u64::MAX {
         let n = input.read(&mut chunk)?;
         if n == 0 {

@@ -15,7 +15,7 @@ use normal_sheet::{CheckedSheet, Used};
 pub struct NormalYear {
     pub(crate) sheet: CheckedSheet,
     pub(crate) connection: Connection,
-    // a choice that is permitted
+    // a choice that is permitted, by its number
     pub(crate) level: u8,
     pub(crate) extras: Extras,
     pub(crate) months: YearTotals,

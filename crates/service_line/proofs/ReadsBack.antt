@@ -49,7 +49,7 @@ line_read q f =
     ap (λ (b : Bool). cond b (Err Length) (unless_stranger (first_stranger 1 (request_line q)) (bytes_of (request_line q)))) (sized q)
     ∙ ap₂ unless_stranger (no_stranger_in 1 frame (small q f)) (bytes_read frame (small q f))
 
-reads_back : (q : Request) → Fitting q → reading (request_line q) ≡ Ok q
+pub reads_back : (q : Request) → Fitting q → reading (request_line q) ≡ Ok q
 reads_back q f = ap by_line (line_read q f) ∙ ap by_frame (frame_read q f)
 
 -- the same, of the front of a buffer that the line is written over

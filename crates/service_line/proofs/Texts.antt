@@ -17,7 +17,7 @@ length_text [] = refl
 length_text (x ∷ bs) = let h : length (text_of bs) ≡ 2 * length bs = length_text bs in omega arith
 
 -- two digits behind a text that is written
-two_over : (text buffer : List ℕ) (x y n : ℕ) → length text ≡ n → n + 1 < length buffer → set (set (over text buffer) n x) (n + 1) y ≡ over (text ++ x ∷ y ∷ []) buffer
+pub two_over : (text buffer : List ℕ) (x y n : ℕ) → length text ≡ n → n + 1 < length buffer → set (set (over text buffer) n x) (n + 1) y ≡ over (text ++ x ∷ y ∷ []) buffer
 two_over text buffer x y n len lt =
     let here : n < length buffer = omega arith in
     let two : n + 1 + 1 ≡ length (text ++ x ∷ y ∷ []) = simp length-append (omega arith) in

@@ -21,6 +21,7 @@ pub(crate) fn check_byte(body: &[u8]) -> u8
 }
 
 // What a frame asks, whatever its check: refused for its kind, then for its length.
+// That a frame has at most 32 bytes is required and not a type's: a type would hold the slice, and be opened at each pattern.
 fn fields(bytes: &[u8]) -> Result<Request, FrameRefusal>
     requires { length bytes.now ≤ 32 }
     ensures asks { result ≡ asked bytes.now }

@@ -1,5 +1,5 @@
 // A line as it comes in, byte by byte: however long it grows, its first 65 bytes tell what it asks.
-ghost use Rattle.std.specs.Prelude.{◌≡◌, ℕ, List, [], ◌∷◌, ◌++◌, take};
+ghost use Rattle.std.specs.Prelude.{◌≡◌, ℕ, ◌≤◌, List, [], ◌∷◌, ◌++◌, length, take};
 ghost use Rattle.service_line.specs.Fronts.{Keeps};
 ghost use Rattle.service_line.specs.Reading.{reading};
 
@@ -59,6 +59,7 @@ impl Received {
     // The first 65 bytes, or all of a shorter line.
     pub fn front(&self) -> &[u8]
         ensures front { result.now ≡ self.now }
+        ensures few { length result.now ≤ 65 }
     {
         &self.bytes[..self.len]
     }

@@ -2,7 +2,8 @@
 // what names nothing.
 #[derive(Clone, Copy, PartialEq, Eq, Debug)]
 pub enum Request {
-    // A first value for an hour: active kWh and reactive kVArh, negative where fed in.
+    // A first value for an hour: active kWh and reactive kVArh, negative where fed in. The fields stand as the format has them, since
+    // the line knows no hour records.
     Post {
         hour: u16,
         active: i16,

@@ -43,7 +43,7 @@ fn put_frame(body: &[u8], line: &mut LineBuffer) -> usize
     2 * body.len() + 2
 }
 
-// The body of a first value for an hour, or of a new one.
+// The body of a first value for an hour, or of a new one; the kind is the body's first byte.
 fn hour_body(kind: u8, hour: u16, active: i16, reactive: i16) -> [u8; 7]
     ensures body { result ≡ kind ∷ (field2 hour ++ signed2 active ++ signed2 reactive) }
 {

@@ -1,5 +1,4 @@
 // The rows of an answer: accepted, or why the call is refused.
-use super::memory;
 use super::memory::Touched;
 use super::rig::NotLent;
 use refusals::{BookRefusal, Refusal};
@@ -64,11 +63,6 @@ pub fn write_no_month<W: Write>(out: &mut W) -> io::Result<()> {
 pub fn write_lent<W: Write>(answer: Result<(), NotLent>, out: &mut W) -> io::Result<()> {
     match answer {
         Ok(()) => writeln!(out, "  so much is lent from here on"),
-        Err(NotLent) => writeln!(
-            out,
-            "  passed over: there are {} records and {} words",
-            memory::RECORDS,
-            memory::WORDS
-        ),
+        Err(refusal) => writeln!(out, "  passed over: {refusal}"),
     }
 }

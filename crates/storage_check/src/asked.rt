@@ -1,61 +1,65 @@
-// The rows of a line of the script: the call in words, or why the line is passed over.
+// A line of the script as it is printed again: the call in words, or why the line is passed over.
 use super::lines;
 use super::script::{Call, Fault, Reading};
 use super::shown::Shown;
-use std::io;
-use std::io::Write;
+use std::fmt;
 use wording::Named;
 
-pub fn write_call<W: Write>(line: u64, call: Call, out: &mut W) -> io::Result<()> {
-    write!(out, "\nline {line:<5}  ")?;
-    match call {
-        Call::Open(point) => writeln!(
-            out,
-            "open     year {}   area {}   connection {}",
-            point.year,
-            Named::Area(point.area),
-            Named::Connection(point.connection)
-        ),
-        Call::Post(reading) => write_reading("post ", reading, out),
-        Call::Amend(reading) => write_reading("amend", reading, out),
-        Call::Choose(s) => {
-            write!(out, "choose   choice {}   power {} kW", s.choice, s.power)?;
-            writeln!(
-                out,
-                "   extra withdrawal {} kVAr   extra input {} kVAr",
-                s.extra_withdrawal, s.extra_input
-            )
+impl fmt::Display for Call {
+    fn fmt<W: fmt::Write>(&self, f: &mut fmt::Formatter<W>) -> fmt::Result {
+        match *self {
+            Call::Open(point) => write!(
+                f,
+                "open     year {}   area {}   connection {}",
+                point.year,
+                Named::Area(point.area),
+                Named::Connection(point.connection)
+            ),
+            Call::Post(reading) => write!(f, "post     {reading}"),
+            Call::Amend(reading) => write!(f, "amend    {reading}"),
+            Call::Choose(s) => {
+                write!(f, "choose   choice {}   power {} kW", s.choice, s.power)?;
+                write!(
+                    f,
+                    "   extra withdrawal {} kVAr   extra input {} kVAr",
+                    s.extra_withdrawal, s.extra_input
+                )
+            }
+            Call::Missing { number } => write!(f, "missing  number {}", Named::Invoice(number)),
+            Call::Lend(loan) => write!(
+                f,
+                "lend     records {}   words {}",
+                loan.records, loan.words
+            ),
         }
-        Call::Missing { number } => writeln!(out, "missing  number {}", Named::Invoice(number)),
-        Call::Lend { records, words } => writeln!(
-            out,
-            "lend     records {records}   words {words}"
-        ),
     }
 }
 
-fn write_reading<W: Write>(name: &str, reading: Reading, out: &mut W) -> io::Result<()> {
-    let Reading { hour, value } = reading;
-    writeln!(
-        out,
-        "{name}    hour {hour}   active {} kWh   reactive {} kVArh",
-        value.active, value.reactive
-    )
+impl fmt::Display for Reading {
+    fn fmt<W: fmt::Write>(&self, f: &mut fmt::Formatter<W>) -> fmt::Result {
+        let Reading { hour, value } = *self;
+        write!(
+            f,
+            "hour {hour}   active {} kWh   reactive {} kVArh",
+            value.active, value.reactive
+        )
+    }
 }
 
-pub fn write_fault<W: Write>(line: u64, fault: Fault<'_>, out: &mut W) -> io::Result<()> {
-    write!(out, "\nline {line:<5}  passed over: ")?;
-    match fault {
-        Fault::Long => writeln!(out, "longer than {} bytes", lines::LONGEST),
-        Fault::NoText => writeln!(out, "bytes that are no text"),
-        Fault::NoCall { word } => writeln!(
-            out,
-            "{} is none of open, post, amend, choose, missing, lend",
-            Shown(word)
-        ),
-        Fault::Form { form } => writeln!(out, "not of the form {form}"),
-        Fault::Number { name, text, range } => {
-            writeln!(out, "{name} is {}, not {range}", Shown(text))
+impl fmt::Display for Fault<'_> {
+    fn fmt<W: fmt::Write>(&self, f: &mut fmt::Formatter<W>) -> fmt::Result {
+        match *self {
+            Fault::Long => write!(f, "longer than {} bytes", lines::LONGEST),
+            Fault::NoText => f.write_str("bytes that are no text"),
+            Fault::NoCall { word } => write!(
+                f,
+                "{} is none of open, post, amend, choose, missing, lend",
+                Shown(word)
+            ),
+            Fault::Form { form } => write!(f, "not of the form {form}"),
+            Fault::Number { name, text, range } => {
+                write!(f, "{name} is {}, not {range}", Shown(text))
+            }
         }
     }
 }

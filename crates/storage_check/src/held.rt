@@ -1,14 +1,14 @@
 // The rows of the memory: what stands there before and after a call.
-use super::memory;
 use super::memory::Memory;
 use super::store::Change;
+use hours::WORDS;
 use std::io;
 use std::io::Write;
 
 // The record of an hour, before and after.
 pub fn write_record<W: Write>(hour: u16, memory: &Memory, out: &mut W) -> io::Result<()> {
     write!(out, "  record  {hour:>5}          ")?;
-    let Some(Change { before, after }) = memory.records.at(hour) else {
+    let Some(Change { before, after }) = memory.records.at(usize::from(hour)) else {
         return writeln!(out, "past the memory");
     };
     write!(out, "before  {:>7} {:>8}", before.active, before.reactive)?;
@@ -18,7 +18,7 @@ pub fn write_record<W: Write>(hour: u16, memory: &Memory, out: &mut W) -> io::Re
 // The word of an hour, before and after, and the hour's bit in it.
 pub fn write_bit<W: Write>(hour: u16, memory: &Memory, out: &mut W) -> io::Result<()> {
     write!(out, "  word    {:>5}  bit {:>2}  ", hour / 64, hour % 64)?;
-    write_word(memory.words.at(hour / 64), out)
+    write_word(memory.words.at(usize::from(hour / 64)), out)
 }
 
 fn write_word<W: Write>(word: Option<Change<u64>>, out: &mut W) -> io::Result<()> {
@@ -32,7 +32,7 @@ fn write_word<W: Write>(word: Option<Change<u64>>, out: &mut W) -> io::Result<()
 
 // The first word and the last that a year has, the one behind them, and how many of all are zero.
 pub fn write_opened<W: Write>(memory: &Memory, out: &mut W) -> io::Result<()> {
-    for i in [0, memory::NEEDED_WORDS - 1, memory::NEEDED_WORDS] {
+    for i in [0, WORDS - 1, WORDS] {
         write!(out, "  word    {i:>5}          ")?;
         write_word(memory.words.at(i), out)?;
     }

@@ -1,29 +1,26 @@
-// The line that is coming in: its first bytes, and how many came.
+// The line that is coming in: as much of it as tells what it is.
 use std::alloc::{AllocError, Global};
 
 // No call needs a longer line.
-pub const LONGEST: u64 = 200;
+pub const LONGEST: usize = 200;
 
+// At most one byte more than that is kept, which shows that the line is longer.
 #[derive(Drop)]
 pub struct Line {
     kept: Vec<u8>,
-    // how many bytes have come in
-    bytes: u64,
 }
 
 impl Line {
     pub fn new(heap: Global) -> Line {
         Line {
             kept: Vec::new(heap),
-            bytes: 0,
         }
     }
 
     pub fn push(&mut self, byte: u8) -> Result<(), AllocError> {
-        if self.bytes < LONGEST {
+        if !self.is_long() {
             self.kept.push(byte)?;
         }
-        self.bytes = self.bytes.saturating_add(1);
         Ok(())
     }
 
@@ -32,6 +29,6 @@ impl Line {
     }
 
     pub fn is_long(&self) -> bool {
-        self.bytes > LONGEST
+        self.kept.len() > LONGEST
     }
 }

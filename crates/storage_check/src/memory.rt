@@ -9,11 +9,6 @@ pub const RECORDS: u16 = 8800;
 
 pub const WORDS: u16 = 140;
 
-// A year's records and words: what a book needs.
-pub const NEEDED_RECORDS: u16 = 8784;
-
-pub const NEEDED_WORDS: u16 = 138;
-
 // The records and the words that an accepted call may have changed.
 #[derive(Drop)]
 pub struct Touched {
@@ -33,7 +28,7 @@ impl Touched {
     pub fn year_of_words() -> Touched {
         Touched {
             records: 0..0,
-            words: 0..usize::from(NEEDED_WORDS),
+            words: 0..hours::WORDS,
         }
     }
 

@@ -1,11 +1,12 @@
 // A book with the memory that it is lent.
 use super::memory;
 use super::memory::{Memory, Touched};
-use super::script::{Point, Reading};
+use super::script::{Loan, Point, Reading};
 use book::{Book, Subscription};
 use calendar::{Calendar, Month, Year};
 use refusals::BookRefusal;
 use std::alloc::{AllocError, Global};
+use std::fmt;
 
 #[derive(Drop)]
 pub struct Rig {
@@ -17,6 +18,17 @@ pub struct Rig {
 #[derive(Clone, Copy)]
 pub struct NotLent;
 
+impl fmt::Display for NotLent {
+    fn fmt<W: fmt::Write>(&self, f: &mut fmt::Formatter<W>) -> fmt::Result {
+        write!(
+            f,
+            "there are {} records and {} words",
+            memory::RECORDS,
+            memory::WORDS
+        )
+    }
+}
+
 // An accepted call answers what of the memory it may have touched.
 impl Rig {
     pub fn new(heap: Global) -> Result<Rig, AllocError> {
@@ -27,12 +39,12 @@ impl Rig {
     }
 
     // What later calls are lent.
-    pub fn lend(&mut self, records: u16, words: u16) -> Result<(), NotLent> {
-        if records > memory::RECORDS || words > memory::WORDS {
+    pub fn lend(&mut self, loan: Loan) -> Result<(), NotLent> {
+        if loan.records > memory::RECORDS || loan.words > memory::WORDS {
             return Err(NotLent);
         }
-        self.memory.records.lend(records);
-        self.memory.words.lend(words);
+        self.memory.records.lend(loan.records);
+        self.memory.words.lend(loan.words);
         Ok(())
     }
 

@@ -18,6 +18,13 @@ pub struct Reading {
     pub value: HourRecord,
 }
 
+// How much of the memory later calls are lent.
+#[derive(Clone, Copy)]
+pub struct Loan {
+    pub records: u16,
+    pub words: u16,
+}
+
 #[derive(Clone, Copy)]
 pub enum Call {
     Open(Point),
@@ -26,8 +33,7 @@ pub enum Call {
     Choose(Subscription),
     // A month from 1 on, or 13 for the year; the book may refuse it.
     Missing { number: u8 },
-    // How much of the memory later calls are lent.
-    Lend { records: u16, words: u16 },
+    Lend(Loan),
 }
 
 #[derive(Clone, Copy)]
@@ -70,7 +76,7 @@ pub fn read<'a>(words: &[&'a str]) -> Result<Option<Call>, Fault<'a>> {
         "amend" => Call::Amend(Reading::read(fields, "amend HOUR ACTIVE REACTIVE")?),
         "choose" => Call::Choose(subscription(fields)?),
         "missing" => missing(fields)?,
-        "lend" => lend(fields)?,
+        "lend" => Call::Lend(Loan::read(fields)?),
         _ => return Err(Fault::NoCall { word: *word }),
     };
     Ok(Some(call))
@@ -131,16 +137,18 @@ fn missing<'a>(fields: &[&'a str]) -> Result<Call, Fault<'a>> {
     })
 }
 
-fn lend<'a>(fields: &[&'a str]) -> Result<Call, Fault<'a>> {
-    let [records, words] = fields else {
-        return Err(Fault::Form {
-            form: "lend RECORDS WORDS",
-        });
-    };
-    Ok(Call::Lend {
-        records: number("RECORDS", *records)?,
-        words: number("WORDS", *words)?,
-    })
+impl Loan {
+    fn read<'a>(fields: &[&'a str]) -> Result<Loan, Fault<'a>> {
+        let [records, words] = fields else {
+            return Err(Fault::Form {
+                form: "lend RECORDS WORDS",
+            });
+        };
+        Ok(Loan {
+            records: number("RECORDS", *records)?,
+            words: number("WORDS", *words)?,
+        })
+    }
 }
 
 // A type of number, and which numbers it holds.

@@ -2,9 +2,9 @@
 use super::lines::Line;
 use super::memory::Touched;
 use super::rig::Rig;
-use super::script::{Call, Fault, Point};
-use super::tally::Tally;
-use super::{answered, asked, held, script, sheet};
+use super::script::{Call, Fault, Loan, Point};
+use super::tally::{Tally, one_more};
+use super::{answered, held, script, sheet};
 use line_input::Lines;
 use refusals::BookRefusal;
 use std::alloc::{AllocError, Global};
@@ -56,12 +56,16 @@ impl<'a, W: Write> Session<'a, W> {
     }
 
     fn pass_over(&mut self, fault: Fault<'_>) -> io::Result<()> {
-        self.tally.fault();
-        asked::write_fault(self.tally.lines, fault, self.out)
+        one_more(&mut self.tally.not_understood);
+        writeln!(
+            self.out,
+            "\nline {:<5}  passed over: {fault}",
+            self.tally.lines
+        )
     }
 
     fn perform(&mut self, call: Call) -> io::Result<()> {
-        asked::write_call(self.tally.lines, call, self.out)?;
+        writeln!(self.out, "\nline {:<5}  {call}", self.tally.lines)?;
         match call {
             Call::Open(point) => self.open(point),
             Call::Post(reading) => {
@@ -82,7 +86,7 @@ impl<'a, W: Write> Session<'a, W> {
                 answered::write_count(answer, self.out)?;
                 self.settle(answer.map(|_| Touched::nothing()))
             }
-            Call::Lend { records, words } => self.lend(records, words),
+            Call::Lend(loan) => self.lend(loan),
         }
     }
 
@@ -108,10 +112,10 @@ impl<'a, W: Write> Session<'a, W> {
         self.settle(answer)
     }
 
-    fn lend(&mut self, records: u16, words: u16) -> io::Result<()> {
-        let answer = self.rig.lend(records, words);
+    fn lend(&mut self, loan: Loan) -> io::Result<()> {
+        let answer = self.rig.lend(loan);
         if answer.is_err() {
-            self.tally.fault();
+            one_more(&mut self.tally.not_understood);
         }
         answered::write_lent(answer, self.out)
     }
@@ -120,11 +124,11 @@ impl<'a, W: Write> Session<'a, W> {
     fn settle(&mut self, answer: Result<Touched, BookRefusal>) -> io::Result<()> {
         let touched = match answer {
             Ok(touched) => {
-                self.tally.accepted();
+                one_more(&mut self.tally.accepted);
                 touched
             }
             Err(_) => {
-                self.tally.refused();
+                one_more(&mut self.tally.refused);
                 Touched::nothing()
             }
         };
@@ -141,7 +145,7 @@ impl<W: Write> Lines for Session<'_, W> {
     }
 
     fn end_line(&mut self) -> io::Result<()> {
-        self.tally.line();
+        one_more(&mut self.tally.lines);
         let line = std::mem::replace(&mut self.line, Line::new(self.heap));
         if script::is_comment(line.kept()) {
             return Ok(());

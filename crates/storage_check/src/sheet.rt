@@ -11,8 +11,8 @@ pub fn write_header<W: Write>(out: &mut W) -> io::Result<()> {
         "memory      {} records and {} presence words; a book needs {} and {}",
         memory::RECORDS,
         memory::WORDS,
-        memory::NEEDED_RECORDS,
-        memory::NEEDED_WORDS
+        hours::RECORDS,
+        hours::WORDS
     )?;
     writeln!(
         out,

@@ -39,6 +39,7 @@ pub struct Store<T> {
     items: Vec<T>,
     // how many of them are lent; the others are compared too
     lent: usize,
+    // beside the items, since a book is lent a row of items alone
     kept: Vec<Kept<T>>,
 }
 
@@ -64,15 +65,16 @@ impl<T: Copy + PartialEq> Store<T> {
         &self.items[..end]
     }
 
+    // The same to be written: what a call is lent to read it cannot write.
     pub fn lent_mut(&mut self) -> &mut [T] {
         let end = self.lent.min(self.items.len());
         &mut self.items[..end]
     }
 
     // None past the memory.
-    pub fn at(&self, i: u16) -> Option<Change<T>> {
-        let kept = self.kept.get(usize::from(i))?;
-        let item = self.items.get(usize::from(i))?;
+    pub fn at(&self, i: usize) -> Option<Change<T>> {
+        let kept = self.kept.get(i)?;
+        let item = self.items.get(i)?;
         Some(Change {
             before: kept.last,
             after: *item,

@@ -7,20 +7,6 @@ pub struct Tally {
     pub not_understood: u64,
 }
 
-impl Tally {
-    pub fn line(&mut self) {
-        self.lines = self.lines.saturating_add(1);
-    }
-
-    pub fn accepted(&mut self) {
-        self.accepted = self.accepted.saturating_add(1);
-    }
-
-    pub fn refused(&mut self) {
-        self.refused = self.refused.saturating_add(1);
-    }
-
-    pub fn fault(&mut self) {
-        self.not_understood = self.not_understood.saturating_add(1);
-    }
+pub fn one_more(counter: &mut u64) {
+    *counter = counter.saturating_add(1);
 }

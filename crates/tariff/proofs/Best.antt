@@ -25,7 +25,7 @@ module _ (permitted : ℕ → Bool) (K : ℕ → ℕ → ℤ) (low high : ℕ) w
   best_skip n p = rw add-one (cond-false (permitted n) _ _ p)
 
   -- what is best of the choices below n, or that none of them is permitted
-  abbrev Best : ℕ → Option Advice → Type 0
+  abbrev pub Best : ℕ → Option Advice → Type 0
   Best n None = (c : ℕ) → c < n → permitted c ≡ true → ⊥
   Best n (Some a) = Advised permitted K low high n a
 
@@ -34,7 +34,7 @@ module _ (permitted : ℕ → Bool) (K : ℕ → ℕ → ℤ) (low high : ℕ) w
   one_more P n below here c h p =
       ⊎_elim (λ lt. below c lt p) (λ ge. let same : n ≡ c = omega arith in subst P same (here (rw same p))) (cases_lt c n)
 
-  skipped : (n : ℕ) (o : Option Advice) → permitted n ≡ false → Best n o → Best (n + 1) o
+  pub skipped : (n : ℕ) (o : Option Advice) → permitted n ≡ false → Best n o → Best (n + 1) o
   skipped n None p h = one_more (λ c. ⊥) n h (both_ways (permitted n) p)
   skipped n (Some a) p h = record {
     below = omega arith;
@@ -45,7 +45,7 @@ module _ (permitted : ℕ → Bool) (K : ℕ → ℕ → ℤ) (low high : ℕ) w
     lowest = h.lowest;
   }
 
-  taken : (n : ℕ) (o : Option Advice) → permitted n ≡ true → Best n o → Advised permitted K low high (n + 1) (better_of o (settled_advice K low high n))
+  pub taken : (n : ℕ) (o : Option Advice) → permitted n ≡ true → Best n o → Advised permitted K low high (n + 1) (better_of o (settled_advice K low high n))
   taken n o p = by o
     where
       here : Advice

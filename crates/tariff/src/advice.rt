@@ -6,7 +6,7 @@ ghost use Rattle.tariff.specs.Advised.{Advised, Cheapest, best_below, advice_of}
 use crate::meaning::Tariff;
 use crate::search::Permitted;
 
-// A choice and a kW, and what the year costs there.
+// A choice by its number and a kW, and what the year costs there.
 #[derive(Clone, Copy, PartialEq, Eq, Debug)]
 pub struct Advice {
     pub choice: u8,

@@ -17,7 +17,7 @@ pub fn number_of_cases() -> usize
     calendar_cases()
 }
 
-// The table's rows, which so far are the calendar's.
+// The table's rows, which so far are the calendar's: each kind of case is a call with a proof of its own.
 fn calendar_cases() -> usize
     ensures number { result ≡ length cases }
     ensures every_case_holds { every cases ≡ true }
