@@ -29,9 +29,10 @@ fn twelve_shares_add_up_and_lie_beside_the_twelfth(rt: HostRuntime) {
     assert_eq!(rt; sum, 100);
 }
 
-// SEK 100,000 a year, SEK 250 for each kW, SEK 30 for each kVAr, at 1,000 kW with 7 and 9 kVAr of extras.
+// SEK 100,000 a year, SEK 250 for each kW, SEK 30 for each kVAr, at 1,000 kW with 7 and 9 kVAr of extras. A month's lines 5
+// and 6 are the ones passed, and it has none beyond.
 #[test]
-fn yearly_amounts(rt: HostRuntime) {
+fn yearly_amounts(rt: HostRuntime) -> Result<(), Fail> {
     let rates = StandingRates {
         fixed_fee: 10_000_000,
         power_rate: 25_000,
@@ -49,12 +50,21 @@ fn yearly_amounts(rt: HostRuntime) {
     assert_eq!(rt; yearly[1], 2_500_000_000);
     assert_eq!(rt; yearly[2], 2_100_000);
     assert_eq!(rt; yearly[3], 2_700_000);
-    assert_eq!(rt; yearly.get(4).copied().unwrap_or(0), 0);
+    let Some(month) = Month::new(1) else {
+        return Err(Fail::new("1 is a month"));
+    };
+    let lines = rates.month_lines(subscribed, month, -170, 1_700);
+    assert_eq!(rt; lines[4], -170);
+    assert_eq!(rt; lines[5], 1_700);
+    assert_eq!(rt; lines[6], 0);
+    assert_eq!(rt; lines[7], 0);
+    assert_eq!(rt; lines[8], 0);
     assert_eq!(rt; energy_amount(10, -170), -1_700);
     assert_eq!(rt;
         energy_amount(u32::MAX, i32::MIN),
         -9_223_372_034_707_292_160
     );
+    Ok(())
 }
 
 // The two highest hours of the year lie in January, 900 and 800; the two highest months are January with 900 and May with
