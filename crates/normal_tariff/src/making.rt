@@ -25,7 +25,7 @@ pub(crate) fn is_permitted(sheet: &CheckedSheet, connection: Connection, choice:
 }
 
 impl NormalYear {
-    // The year, if the level is a permitted choice: the hours are gone through once.
+    // The year, if the level, a choice by its number, is permitted: the hours are gone through once.
     pub fn new(
         sheet: CheckedSheet,
         connection: Connection,

@@ -54,7 +54,7 @@ fn hour_body(kind: u8, hour: u16, active: i16, reactive: i16) -> [u8; 7]
 }
 
 // Writes the line of a request over the front of the buffer, and answers its length.
-// No heap in the unit: the caller lends the memory, and cuts the line from it.
+// No heap in the unit: the caller lends the memory. The length is answered and no slice, since `text` speaks of the whole buffer.
 pub fn write_request(request: Request, line: &mut LineBuffer) -> usize
     ensures len { result ≡ length (request_line request) }
     ensures room { result ≤ 150 }
@@ -117,7 +117,7 @@ fn invoice_body(number: u8, amounts: [i64; 9]) -> [u8; 74]
 }
 
 // Writes the line of an answer over the front of the buffer, and answers its length.
-// No heap in the unit: the caller lends the memory, and cuts the line from it.
+// No heap in the unit: the caller lends the memory. The length is answered and no slice, since `text` speaks of the whole buffer.
 pub fn write_answer(answer: Answer, line: &mut LineBuffer) -> usize
     ensures len { result ≡ length (answer_line answer) }
     ensures room { result ≤ 150 }
