@@ -1,5 +1,6 @@
 // Layer 3: why the book refuses a call. What came in as a number and is refused stays that number.
-ghost use Rattle.std.specs.Prelude.{◌≡◌};
+ghost use Rattle.std.specs.Prelude.{◌≡◌, Some};
+ghost use Rattle.refusals.specs.Words.{book_words, lent_words, quantity_words};
 ghost use Rattle.refusals.specs.Rows.{row, book_row, lent_place, quantity_place};
 
 use super::Entry;
@@ -26,6 +27,8 @@ impl Lent {
 }
 
 impl fmt::Display for Lent {
+    ghost output = { λ r. Some (lent_words r) };
+
     fn fmt<W: fmt::Write>(&self, f: &mut fmt::Formatter<W>) -> fmt::Result {
         f.write_str(match self {
             Lent::Records => "hour records",
@@ -56,6 +59,8 @@ impl Quantity {
 }
 
 impl fmt::Display for Quantity {
+    ghost output = { λ r. Some (quantity_words r) };
+
     fn fmt<W: fmt::Write>(&self, f: &mut fmt::Formatter<W>) -> fmt::Result {
         f.write_str(match self {
             Quantity::Power => "power",
@@ -115,6 +120,8 @@ impl BookRefusal {
 }
 
 impl fmt::Display for BookRefusal {
+    ghost output = { λ r. Some (book_words r) };
+
     fn fmt<W: fmt::Write>(&self, f: &mut fmt::Formatter<W>) -> fmt::Result {
         match *self {
             BookRefusal::Memory { short } => write!(f, "too few {short} are lent"),

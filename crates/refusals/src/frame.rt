@@ -1,5 +1,6 @@
 // Layer 2: why the bytes of a frame are no request. What is refused stays the byte that came in.
-ghost use Rattle.std.specs.Prelude.{◌≡◌};
+ghost use Rattle.std.specs.Prelude.{◌≡◌, Some};
+ghost use Rattle.refusals.specs.Words.{frame_words};
 ghost use Rattle.refusals.specs.Rows.{row, frame_row};
 
 use super::Entry;
@@ -29,6 +30,8 @@ impl FrameRefusal {
 }
 
 impl fmt::Display for FrameRefusal {
+    ghost output = { λ r. Some (frame_words r) };
+
     fn fmt<W: fmt::Write>(&self, f: &mut fmt::Formatter<W>) -> fmt::Result {
         match *self {
             FrameRefusal::Kind { kind } => write!(f, "{kind:02X} is no kind of request"),

@@ -1,7 +1,8 @@
 // Every refusal of the unit: one enum for each layer, and `Refusal` over the four.
 #![tactic(auto)]
 
-ghost use Rattle.std.specs.Prelude.{◌≡◌};
+ghost use Rattle.std.specs.Prelude.{◌≡◌, Some};
+ghost use Rattle.refusals.specs.Words.{words};
 ghost use Rattle.refusals.specs.Rows.{row_of};
 ghost use Rattle.refusals.specs.declared.Refusal.TheVariants.{Line, Frame, Book, Tariff};
 
@@ -82,6 +83,8 @@ impl Refusal {
 }
 
 impl fmt::Display for Refusal {
+    ghost output = { λ r. Some (words r) };
+
     fn fmt<W: fmt::Write>(&self, f: &mut fmt::Formatter<W>) -> fmt::Result {
         match self {
             Refusal::Line(refusal) => refusal.fmt(f),

@@ -1,5 +1,6 @@
 // Layer 1: why the text of a line carries no frame.
-ghost use Rattle.std.specs.Prelude.{◌≡◌};
+ghost use Rattle.std.specs.Prelude.{◌≡◌, Some};
+ghost use Rattle.refusals.specs.Words.{line_words};
 ghost use Rattle.refusals.specs.Rows.{row, line_row};
 
 use super::Entry;
@@ -26,6 +27,8 @@ impl LineRefusal {
 }
 
 impl fmt::Display for LineRefusal {
+    ghost output = { λ r. Some (line_words r) };
+
     fn fmt<W: fmt::Write>(&self, f: &mut fmt::Formatter<W>) -> fmt::Result {
         match *self {
             LineRefusal::Length => f.write_str("a line has 4 to 64 bytes, an even number"),

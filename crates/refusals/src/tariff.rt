@@ -1,5 +1,6 @@
 // Layer 4: why a sheet does not price the book. Areas, choices and rows are the numbers that an answer's frame carries.
-ghost use Rattle.std.specs.Prelude.{◌≡◌};
+ghost use Rattle.std.specs.Prelude.{◌≡◌, Some};
+ghost use Rattle.refusals.specs.Words.{tariff_words};
 ghost use Rattle.refusals.specs.Rows.{row, tariff_row};
 
 use super::Entry;
@@ -35,6 +36,8 @@ impl TariffRefusal {
 }
 
 impl fmt::Display for TariffRefusal {
+    ghost output = { λ r. Some (tariff_words r) };
+
     fn fmt<W: fmt::Write>(&self, f: &mut fmt::Formatter<W>) -> fmt::Result {
         match *self {
             TariffRefusal::Sheet { area } => write!(f, "a sheet of another tariff or area, {area}"),
