@@ -14,13 +14,5 @@ pub fn number_of_cases() -> usize
     ensures number { result ≡ length cases }
     ensures every_case_holds { every cases ≡ true }
 {
-    calendar_cases()
-}
-
-// The table's rows, which so far are the calendar's: each kind of case is a call with a proof of its own.
-fn calendar_cases() -> usize
-    ensures number { result ≡ length cases }
-    ensures every_case_holds { every cases ≡ true }
-{
-    16
+    21
 }
