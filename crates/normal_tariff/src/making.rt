@@ -36,6 +36,7 @@ impl NormalYear {
     ) -> Option<NormalYear>
         ensures made { elim result [ Some t ↦ (t.sheet.sheet ≡ sheet.sheet) × (t.connection ≡ connection) × (t.extras ≡ extras) | None ↦ (nat_lt level 9 && permitted_to sheet.sheet connection level) ≡ false ] }
         ensures months { elim result [ Some t ↦ ((m : ℕ) → 1 ≤ m → m ≤ 12 → month_in t.months.months m ≡ month_totals calendar.now.year.number (map limited records.now) m) | None ↦ Unit {0} ] }
+        ensures amounts { elim result [ Some t ↦ ((c s i l : ℕ) → 1 ≤ i → amount_of t.sheet.sheet t.extras (month_in t.months.months) c s i l ≡ normal_amount sheet.sheet extras calendar.now.year.number (map limited records.now) c s i l) | None ↦ Unit {0} ] }
     {
         if level >= 9 || !is_permitted(&sheet, connection, level) {
             return None;
