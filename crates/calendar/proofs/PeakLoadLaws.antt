@@ -1,5 +1,6 @@
 -- Laws of peak-load hours: how their number grows hour by hour, and part by part.
-use Rattle.std.proofs.Common.{◌≡◌, ℕ, zero, suc, ◌+◌, ◌≤◌, Bool, true, false, List, ◌∷◌, cond, length, filter, refl, add-zero, add-one, add-suc, one-add, arith}
+use Rattle.std.proofs.Common.{◌≡◌, ℕ, zero, suc, ◌+◌, ◌≤◌, Bool, true, false, List, ◌∷◌, cond, length, filter, map, sum, subst, sym, ap, ◌∙◌, refl, add-zero, add-one, add-suc, one-add, arith}
+use Rattle.std.proofs.lemmas.List.FromFn.{sum_by-map-range_with_len_more}
 use Rattle.std.proofs.lemmas.Bool.Decides.{nat_tests}
 use Rattle.std.specs.List.{range_with_len}
 use Rattle.calendar.specs.PeakLoad.{peak_load, peak_load_hours}
@@ -39,3 +40,12 @@ peak_load_hours_filter y h (suc n) =
     one_more : (b : Bool) (x : ℕ) (xs : List ℕ) (k all : ℕ) → length xs ≡ k → all ≡ 0 + cond b 1 0 + k → length (cond b (x ∷ xs) xs) ≡ all
     one_more true x xs k all e f = omega arith
     one_more false x xs k all e f = omega arith
+
+-- each hour that passes the test adds one
+pub peak_load_hours_sum : (y h n : ℕ) → sum (map (λ k. cond (peak_load y k) 1 0) (range_with_len h n)) ≡ peak_load_hours y h n
+peak_load_hours_sum y h zero = sym (peak_load_hours_none y h)
+peak_load_hours_sum y h (suc n) =
+    let f : ℕ → ℕ = λ k. cond (peak_load y k) 1 0 in
+    let more : sum (map f (range_with_len h (n + 1))) ≡ sum (map f (range_with_len h n)) + f (h + n) =
+    sum_by-map-range_with_len_more (λ n. n) f h n (h + n) (omega arith) in
+    subst (λ (m : ℕ). sum (map f (range_with_len h m)) ≡ peak_load_hours y h m) (add-one n) (more ∙ ap (λ m. m + f (h + n)) (peak_load_hours_sum y h n) ∙ sym (peak_load_hours_more y h n))

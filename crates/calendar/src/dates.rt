@@ -51,7 +51,12 @@ impl DayOfYear<'_> {
         ensures there_and_back { let y = self.entry.calendar.now.year.number in date y (month_of_day y self.entry.number) (day_of_month y self.entry.number) ≡ self.entry.number }
     {
         let month = self.month();
-        let first = self.calendar.year.days_to(month.number - 1);
+        // the day of the month's first hour: the months before it need not be gone through again
+        let first = self
+            .calendar
+            .clock
+            .shows(self.calendar.month_hours(month).first)
+            / 24;
         Date {
             weekday: self.weekday(),
             day: (self.number - first + 1) as u8,

@@ -22,8 +22,8 @@ impl Calendar {
         ensures count { result ≡ peak_load_hours self.now.year.number span.first (span.end - span.first) }
     {
         (span.first..span.end)
-            .filter(|hour| self.is_peak_load(*hour))
-            .count() as u16
+            .map(|hour| u16::from(self.is_peak_load(hour)))
+            .sum()
     }
 }
 

@@ -1,8 +1,8 @@
 // The four flows that are measured at a connection; an enum and no closure, since clauses name them.
 ghost use Rattle.std.specs.Prelude.{◌≡◌, ◌≤◌};
-ghost use Rattle.hours.specs.Values.{flow_of, limited, positive};
+ghost use Rattle.hours.specs.Values.{flow_of, limit, limited, positive};
 
-use super::record::HourRecord;
+use super::record::{HourRecord, MOST};
 
 #[derive(Clone, Copy, PartialEq, Eq, Debug)]
 pub enum Flow {
@@ -18,19 +18,19 @@ impl Flow {
         ensures flow { result ≡ flow_of self (limited value) }
         ensures at_most { result ≤ 32000 }
     {
-        let value = value.limited();
         match self {
             Flow::Drawn => positive(value.active),
-            Flow::FedIn => positive(-value.active),
+            Flow::FedIn => positive(value.active.saturating_neg()),
             Flow::ReactiveDrawn => positive(value.reactive),
-            Flow::ReactiveFedIn => positive(-value.reactive),
+            Flow::ReactiveFedIn => positive(value.reactive.saturating_neg()),
         }
     }
 }
 
-// A value above zero, or 0.
+// A value above zero, as it counts, or 0.
 fn positive(value: i16) -> u16
-    ensures positive { result ≡ positive value }
+    ensures positive { result ≡ positive (limit value) }
+    ensures at_most { result ≤ 32000 }
 {
-    u16::try_from(value).unwrap_or(0)
+    value.clamp(0, MOST).unsigned_abs()
 }

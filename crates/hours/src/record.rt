@@ -8,6 +8,9 @@ use calendar::Span;
 // A record for each hour of a leap year.
 pub const RECORDS: usize = 8_784;
 
+// The most kWh or kVArh of an hour that count, either way.
+pub(crate) const MOST: i16 = 32_000;
+
 // Active energy in kWh and reactive energy in kVArh; positive is drawn, negative fed in.
 #[derive(Clone, Copy, PartialEq, Eq, Debug)]
 pub struct HourRecord {
@@ -30,7 +33,7 @@ impl HourRecord {
 fn nearer_limit(value: i16) -> i16
     ensures limit { result ≡ limit value }
 {
-    value.clamp(-32_000, 32_000)
+    value.clamp(-MOST, MOST)
 }
 
 // Writes the record of an hour in place; past the lent records it writes nothing.

@@ -65,14 +65,17 @@ impl Totals {
     }
 }
 
+// Hours by their place in the part: zipped with the records they take more than twice the time. Inlined, since who asks for one of
+// the totals alone is not to pay for all.
+#[inline(always)]
 pub fn part_totals(records: &[HourRecord], span: Span, calendar: &Calendar) -> Totals
     ensures totals { result ≡ totals_of calendar.now.year.number span.first (values_in span records.now) }
     ensures within { Within result }
 {
     let mut sum = Totals::none();
     let hours = part(records, span);
-    for (hour, value) in (span.first..span.end).zip(hours) {
-        sum = sum.with(*value, calendar.is_peak_load(hour));
+    for (i, value) in hours.iter().enumerate() {
+        sum = sum.with(*value, calendar.is_peak_load(span.first + i as u16));
     }
     sum
 }

@@ -1,28 +1,32 @@
--- `highest` is the highest of the part's values of the flow.
-use Rattle.std.proofs.Common.{◌≡◌, ℕ, max, List, [], ◌∷◌, map, unwrap_or, ap, ◌∙◌, arith, rules, tests}
-use Rattle.std.proofs.Math.Nat.{zero-max}
-use Rattle.std.specs.List.{fold}
-use Rattle.std.proofs.lemmas.Iterator.{YieldsList-from_slice, YieldsList-from_map}
-use Rattle.std.proofs.lemmas.Iterator.Consumers.{reduce_from_yields_List}
-use Rattle.std.proofs.lemmas.List.Folds.{max_of_map}
+-- `highest` takes one hour a turn.
+use Rattle.std.proofs.Common.{◌≡◌, ℕ, ◌+◌, max, List, map, get_or, drop, pos, ap, ◌∙◌, arith}
+use Rattle.std.proofs.lemmas.List.{at_drop_all, at_drop_more}
 use Rattle.hours.specs.declared.record.HourRecord.{HourRecord}
-use Rattle.hours.specs.declared.flow.Flow.{Flow}
 use Rattle.hours.specs.Values.{flow_of, highest_of, limited}
 use Rattle.hours.proofs.peak.highest.Goals as goal
 
--- a fold over the records finds their highest
-fold_highest : (f : Flow) (a : ℕ) (vs : List HourRecord) → fold (λ a v. max a (flow_of f (limited v))) a vs ≡ max a (highest_of f (map limited vs))
-fold_highest f a [] = omega arith
-fold_highest f a (v ∷ vs) = fold_highest f (max a (flow_of f (limited v))) vs ∙ omega arith
+abbrev blank : HourRecord
+blank = record { active = pos 0; reactive = pos 0 }
 
-pub returns-clause-highest : goal.returns-clause-highest
-returns-clause-highest c =
+pub loop-hour-preserved : goal.loop-hour-preserved
+loop-hour-preserved c =
+    let hours : List HourRecord = c.part-hours.result.now in
+    let i : ℕ = c.loop-hour.hour-index in
+    let flow = c.args.flow in
+    let this : c.of.result ≡ flow_of flow (limited (get_or hours i blank)) = c.of.ensures.flow in
+    let step : highest_of flow (map limited (drop i hours)) ≡ max (flow_of flow (limited (get_or hours i blank))) (highest_of flow (map limited (drop (i + 1) hours))) =
+    at_drop_more (λ l. highest_of flow (map limited l)) hours i blank (omega arith) in
+    let most = c.of.ensures.at_most in
+    let so_far = c.loop-hour.invariant.0 in
+    let low = c.loop-hour.invariant.1 in
+    let higher = c.max-high.ensures in
+    (omega arith, omega arith)
+
+pub returns : goal.returns
+returns c =
     let hours : List HourRecord = c.part-hours.result.now in
     let flow = c.args.flow in
-    let value : HourRecord → ℕ = λ v. flow_of flow (limited v) in
-    c.unwrap_or.ensures
-    ∙ ap (λ o. unwrap_or o 0) (reduce_from_yields_List _ c.map.result _ c.max.ensures.ran (YieldsList-from_map _ value (YieldsList-from_slice hours cc) c.map.ensures.closure (λ x b q k. search (rules, tests))))
-    ∙ max_of_map value hours
-    ∙ fold_highest flow 0 hours
-    ∙ zero-max _
-    ∙ ap (λ (l : List HourRecord). highest_of flow (map limited l)) c.part-hours.ensures.part
+    let rest : highest_of flow (map limited (drop c.loop-hour.hour-index hours)) ≡ 0 = at_drop_all (λ l. highest_of flow (map limited l)) hours c.loop-hour.hour-index c.loop-hour-test.false in
+    let so_far = c.loop-hour.invariant.0 in
+    let all : c.loop-hour.high ≡ highest_of flow (map limited hours) = omega arith in
+    record { highest = all ∙ ap (λ (l : List HourRecord). highest_of flow (map limited l)) c.part-hours.ensures.part; at_most = c.loop-hour.invariant.1 }
