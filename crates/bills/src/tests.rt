@@ -38,18 +38,20 @@ fn yearly_amounts(rt: HostRuntime) -> Result<(), Fail> {
         power_rate: 25_000,
         extra_rate: 3_000,
     };
-    let subscribed = Subscribed {
-        kw: 1_000,
-        extras: Extras {
-            withdrawal: 7,
-            input: 9,
-        },
+    let extras = Extras {
+        withdrawal: 7,
+        input: 9,
     };
-    let yearly = rates.yearly(subscribed);
-    assert_eq!(rt; yearly[0], 1_000_000_000);
-    assert_eq!(rt; yearly[1], 2_500_000_000);
-    assert_eq!(rt; yearly[2], 2_100_000);
-    assert_eq!(rt; yearly[3], 2_700_000);
+    assert_eq!(rt; rates.yearly(extras, 1_000, 1), 1_000_000_000);
+    assert_eq!(rt; rates.yearly(extras, 1_000, 2), 2_500_000_000);
+    assert_eq!(rt; rates.yearly(extras, 1_000, 3), 2_100_000);
+    assert_eq!(rt; rates.yearly(extras, 1_000, 4), 2_700_000);
+    assert_eq!(rt; rates.yearly(extras, 1_000, 5), 0);
+    let subscribed = Subscribed { kw: 1_000, extras };
+    assert_eq!(rt;
+        rates.yearly_amounts(subscribed),
+        [1_000_000_000, 2_500_000_000, 2_100_000, 2_700_000]
+    );
     let Some(month) = Month::new(1) else {
         return Err(Fail::new("1 is a month"));
     };
@@ -59,6 +61,15 @@ fn yearly_amounts(rt: HostRuntime) -> Result<(), Fail> {
     assert_eq!(rt; lines[6], 0);
     assert_eq!(rt; lines[7], 0);
     assert_eq!(rt; lines[8], 0);
+    assert_eq!(rt;
+        rates.month_line(extras, 1_000, month, -170, 1_700, 3),
+        175_000
+    );
+    assert_eq!(rt;
+        rates.month_line(extras, 1_000, month, -170, 1_700, 5),
+        -170
+    );
+    assert_eq!(rt; rates.month_line(extras, 1_000, month, -170, 1_700, 7), 0);
     assert_eq!(rt; energy_amount(10, -170), -1_700);
     assert_eq!(rt;
         energy_amount(u32::MAX, i32::MIN),

@@ -61,9 +61,19 @@ fn lines_of_a_level(rt: HostRuntime) -> Result<(), Fail> {
         &lines[2..],
         [200_000, 400_000, 3_200, -170_170, 0, 0, 0].as_slice()
     );
+    let extras = subscribed(12, 24).extras;
+    assert_eq!(rt;
+        level.month_line(extras, 1_000, &totals, january, 3),
+        200_000
+    );
+    assert_eq!(rt;
+        level.month_line(extras, 1_000, &totals, january, 6),
+        -170_170
+    );
+    assert_eq!(rt; level.month_line(extras, 1_000, &totals, january, 10), 0);
     assert!(rt; lines[0] == 333_333_333 || lines[0] == 333_333_334);
     assert!(rt; lines[1] == 88_333_333 || lines[1] == 88_333_334);
-    assert_eq!(rt; level.line_7(subscribed(0, 0), &used), 1_060_000);
+    assert_eq!(rt; level.line_7(&used, 1_000), 1_060_000);
     assert_eq!(rt; level.line_8(subscribed(0, 0), &used), 60_000_000);
     assert_eq!(rt; level.line_8(subscribed(150, 0), &used), 0);
     assert_eq!(rt; level.line_9(subscribed(0, 100), &used), 60_000_000);
@@ -72,11 +82,15 @@ fn lines_of_a_level(rt: HostRuntime) -> Result<(), Fail> {
         closing,
         [0, 0, 0, 0, 0, 0, 1_060_000, 60_000_000, 60_000_000]
     );
+    let extras = subscribed(0, 100).extras;
+    assert_eq!(rt; level.closing_line(extras, 1_000, &used, 7), 1_060_000);
+    assert_eq!(rt; level.closing_line(extras, 1_000, &used, 9), 60_000_000);
+    assert_eq!(rt; level.closing_line(extras, 1_000, &used, 6), 0);
     let dearer = Row {
         active_excess_rate: 50_000,
         ..level
     };
-    assert_eq!(rt; dearer.line_7(subscribed(0, 0), &used), 2_500_000);
+    assert_eq!(rt; dearer.line_7(&used, 1_000), 2_500_000);
     Ok(())
 }
 
