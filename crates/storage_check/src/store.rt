@@ -26,6 +26,14 @@ pub struct Counted {
 }
 
 impl Counted {
+    // Items against what the last call left there: how many there are is told at once, so that a turn only compares.
+    fn compare_all<T: Copy + PartialEq>(&mut self, items: &[T], kept: &[Kept<T>]) {
+        let places = items.iter().zip(kept);
+        let changed = places.filter(|(item, kept)| **item != kept.last).count();
+        self.all = self.all.saturating_add(items.len() as u64);
+        self.changed = self.changed.saturating_add(changed as u64);
+    }
+
     fn compare<T: PartialEq>(&mut self, now: &T, then: &T) {
         self.all = self.all.saturating_add(1);
         if now != then {
@@ -89,14 +97,15 @@ impl<T: Copy + PartialEq> Store<T> {
         }
     }
 
-    // The items outside the touched places, against what the last call left.
+    // The items outside the touched places, against what the last call left: those before them and those behind, so that no item
+    // is asked whether it is touched.
     pub fn others(&self, touched: &Range<usize>) -> Counted {
+        let all = self.items.len().min(self.kept.len());
+        let first = touched.start.min(all);
+        let end = touched.end.clamp(first, all);
         let mut counted = Counted::default();
-        for (i, (item, kept)) in self.items.iter().zip(self.kept.iter()).enumerate() {
-            if !touched.contains(&i) {
-                counted.compare(item, &kept.last);
-            }
-        }
+        counted.compare_all(&self.items[..first], &self.kept[..first]);
+        counted.compare_all(&self.items[end..all], &self.kept[end..all]);
         counted
     }
 
