@@ -44,9 +44,9 @@ pub number_high : (number : ℕ) → fine ≡ number_answer number → number �
 number_high number e = grind (arith, nat_tests)
 
 -- the tests of missing, all passed
-told : (n m : ℕ) (p : Plain) (o : Opening) (number k : ℕ) (u : Unit {0}) → Ok u ≡ memory_answer n m → Ok o ≡ opened_answer p.opening → fine ≡ number_answer number
+pub missing_told : (n m : ℕ) (p : Plain) (o : Opening) (number k : ℕ) (u : Unit {0}) → Ok u ≡ memory_answer n m → Ok o ≡ opened_answer p.opening → fine ≡ number_answer number
     → k ≡ count (λ h. not (holds p h)) (first_hour o.year number) (end_hour o.year number - first_hour o.year number) → Ok k ≡ missing_answer n m p number
-told n m p o number k u memory opened numbered e = rw (← memory, ← opened, ← numbered) (ap Ok e)
+missing_told n m p o number k u memory opened numbered e = rw (← memory, ← opened, ← numbered) (ap Ok e)
 
 -- the hours of the part less its ones are what missing answers
 pub missing_law : (b : Option Opening) (rs : List HourRecord) (ws : List ℕ) (number : ℕ) (o : Opening) (first end ones : ℕ) (u : Unit {0})
@@ -58,7 +58,7 @@ missing_law (Some o') rs ws number o first end ones u memory opened numbered fro
     let last = end_hour_high o.year number (number_high number numbered) in
     let same : o' ≡ o = cc in
     let read_by : Opening → ℕ → ℕ → ℕ = λ x f e. count (λ h. not (holds (read (state (Some x) rs ws)) h)) f (e - f) in
-    told (length rs) (length ws) (read (state (Some o') rs ws)) o number (end - first - ones) u memory opened numbered
+    missing_told (length rs) (length ws) (read (state (Some o') rs ws)) o number (end - first - ones) u memory opened numbered
     (ap (λ (k : ℕ). end - first - k) counted
     ∙ absent_count o rs ws first (end - first) (omega arith)
     ∙ ap (λ (x : Opening). read_by x first end) (sym same)

@@ -1,6 +1,6 @@
 -- The text of bytes, and text written over the front of a buffer.
 use Rattle.std.proofs.Common.{◌≡◌, ℕ, ◌+◌, ◌*◌, ◌/◌, ◌%◌, ◌<◌, ◌≤◌, List, [], ◌∷◌, ◌++◌, length, get_or, take, drop, set, sym, refl, ap, ◌∙◌, arith}
-use Rattle.std.proofs.lemmas.List.{append_assoc, drop_more, length-append, length_push, length-take-le, set_at, take_more}
+use Rattle.std.proofs.lemmas.List.{append_assoc, drop_more, length-append, length-drop, length_push, length-take-le, set_at, take_more}
 use Rattle.service_line.specs.Formats.{check_of, frame_of, over}
 use Rattle.service_line.specs.Hex.{digit_of, text_of}
 
@@ -15,6 +15,10 @@ text_push (x ∷ bs) b = ap (λ (t : List ℕ). digit_of (x / 16) ∷ digit_of (
 pub length_text : (bs : List ℕ) → length (text_of bs) ≡ 2 * length bs
 length_text [] = refl
 length_text (x ∷ bs) = let h : length (text_of bs) ≡ 2 * length bs = length_text bs in omega arith
+
+-- a text that fits leaves the buffer as long as it was
+pub length_over : (text buffer : List ℕ) → length text ≤ length buffer → length (over text buffer) ≡ length buffer
+length_over text buffer le = simp (length-append, length-drop) (omega arith)
 
 -- two digits behind a text that is written
 pub two_over : (text buffer : List ℕ) (x y n : ℕ) → length text ≡ n → n + 1 < length buffer → set (set (over text buffer) n x) (n + 1) y ≡ over (text ++ x ∷ y ∷ []) buffer

@@ -27,8 +27,9 @@ fn months(rt: HostRuntime) -> Result<(), Fail> {
         // a number that is no month must fail the test, so none is left out
         for number in 1..=12 {
             let month = Month::new(number).ok_or_else(|| Fail::new("no month"))?;
+            assert_eq!(rt; month.number, number);
             let hours = calendar.month_hours(month);
-            let place = month.number as usize - 1;
+            let place = number as usize - 1;
             assert_eq!(rt; hours.end, row.month_ends[place]);
             assert_eq!(rt; calendar.peak_load_hours(hours), row.peak_load[place]);
             assert_eq!(rt; calendar.month_of(hours.first), Some(month));
